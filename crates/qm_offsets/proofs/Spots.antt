@@ -1,7 +1,7 @@
 -- Searches in tables of starts.
-use Rattle.std.proofs.Common.{◌≡◌, ◌⊎◌, ℕ, zero, suc, ◌+◌, ◌-◌, ◌<◌, ◌≤◌, List, length, ◌∙◌, ap, inl, inr, arith}
-use Rattle.std.proofs.lemmas.Bool.{cases_eq, cases_lt, cond-true, lt-ltb}
-use Rattle.written_laws.proofs.Spacings.{count_rises, run_from, run_to, run_last}
+use Rattle.std.proofs.Common.{rules, ◌≡◌, ◌⊎◌, ℕ, zero, suc, ◌+◌, ◌-◌, ◌<◌, ◌≤◌, List, length, ◌∙◌, ap, inl, inr, arith}
+use Rattle.std.proofs.lemmas.Bool.{cases_eq, cond-true, lt-ltb}
+use Rattle.written_laws.proofs.Spacings.{count_rises, run_from, run_to}
 use Rattle.{std.specs.Prelude.nat_lt, std.specs.Prelude.slice_index, def_math.specs.Counts.count_below}
 use Rattle.{def_math.specs.Runs.run_at, def_remesh.specs.Numberings.AreRunStarts, sum_laws.proofs.Sums.count_below_same}
 
@@ -19,12 +19,8 @@ spot_between f (suc n) t k low from to = elim (cases_eq k n) [
 ]
   where
     at_last : k ≡ n → (k ≡ 0) ⊎ (count_below f k ≤ t) → run_at (count_below f) (suc n) t ≡ k
-    at_last e (inl z) =
-        let none : suc n - 1 ≡ 0 = omega arith in
-        run_last (count_below f) (suc n) t (omega arith) (omega (arith, ap (count_below f) none)) ∙ omega arith
-    at_last e (inr le) =
-        let same : suc n - 1 ≡ k = omega arith in
-        run_last (count_below f) (suc n) t (omega arith) (omega (arith, ap (count_below f) same)) ∙ omega arith
+    at_last e (inl z) = search rules
+    at_last e (inr le) = search rules
 
     below : k < n → (k + 1 ≡ suc n) ⊎ (t < count_below f (k + 1)) → t < count_below f n
     below before (inl e) = absurd (omega arith)
@@ -38,21 +34,7 @@ spot_between f (suc n) t k low from to = elim (cases_eq k n) [
 pub within_run : (f : ℕ → ℕ) (n t : ℕ) → 0 < n → t ≤ count_below f n
     → (count_below f (run_at (count_below f) n t) ≤ t)
     × (t - count_below f (run_at (count_below f) n t) ≤ f (run_at (count_below f) n t))
-within_run f n t some le = (
-  from,
-  elim (cases_lt t (count_below f n)) [
-    | inl less ↦ omega (arith, run_to (count_below f) n t some less)
-    | inr more ↦
-        let one : suc (n - 1) ≡ n = omega arith in
-        let whole : count_below f (n - 1) + f (n - 1) ≡ count_below f n = ap (count_below f) one in
-        let last : run_at (count_below f) n t ≡ n - 1 =
-        run_last (count_below f) n t some (omega (arith, whole, more)) in
-        omega (arith, whole, le, ap f last, ap (count_below f) last)
-  ],
-)
-  where
-    from : count_below f (run_at (count_below f) n t) ≤ t
-    from = run_from (count_below f) n t (omega arith)
+within_run f n t some le = search (rules, run_to, run_from)
 
 -- Counts, one by one.
 pub count_step : (f : ℕ → ℕ) (k : ℕ) → count_below f (k + 1) ≡ count_below f k + f k
@@ -64,9 +46,7 @@ term_room f n k low = count_rises f (suc k) n (omega (arith, low))
 -- The end of the last run.
 pub last_is : (f : ℕ → ℕ) (n : ℕ) (starts : List ℕ) → AreRunStarts f n starts → slice_index starts (length starts - 1)
     ≡ count_below f n
-last_is f n starts are =
-    let last : length starts - 1 ≡ n = omega (arith, are.count) in ap (slice_index starts) last
-    ∙ are.each n (omega arith)
+last_is f n starts are = search rules
 
 -- There is room for another run.
 pub next_room : (f : ℕ → ℕ) (n k : ℕ) (starts : List ℕ) → k < n → AreRunStarts f k starts
@@ -76,7 +56,4 @@ next_room f n k starts low are = omega (arith, last_is f k starts are, term_room
 -- Starts of other sizes that are the same.
 pub starts_same : (f g : ℕ → ℕ) (n : ℕ) (starts : List ℕ) → ((k : ℕ) → k < n → f k ≡ g k) → AreRunStarts f n starts
     → AreRunStarts g n starts
-starts_same f g n starts same are = record {
-  count = are.count;
-  each = λ k low. are.each k low ∙ count_below_same f g k (λ j less. same j (omega arith));
-}
+starts_same f g n starts same are = search (rules, count_below_same)

@@ -1,11 +1,11 @@
 -- What the layout of a mesh gives.
-use Rattle.std.proofs.Common.{◌≡◌, ℕ, zero, suc, ◌<◌, true, false, List, length, get_or, refl, sym, ap, subst, arith}
-use Rattle.std.proofs.lemmas.List.{get_or_default}
+use Rattle.std.proofs.Common.{rules, ◌≡◌, ℕ, zero, suc, ◌<◌, true, false, List, length, get_or, refl, sym, ap, subst}
+use Rattle.std.proofs.Common.{arith}
+use Rattle.{std.proofs.lemmas.List.get_or_default, def_layoutnet.specs.MeshLayouts.IsSomeLayout}
 use Rattle.def_layout.specs.{Surfaces.HasWholeSides, Gluings.Way, Gluings.south, Gluings.east, Gluings.north}
 use Rattle.def_layout.specs.{Gluings.west, Lengths.Lengths, Lengths.size, Layouts.Layout, Layouts.gluing_of}
 use Rattle.def_layout.specs.{Layouts.way_number, Layouts.side_at, declared.tmesh.SideArc.SideArc}
 use Rattle.def_remesh.specs.Numberings.{sizes_on, used_at}
-use Rattle.def_layoutnet.specs.MeshLayouts.{IsSomeLayout}
 use Rattle.{std.specs.List.All, def_math.specs.Counts.count_below, def_known.specs.Sides.AreSides}
 pub use Rattle.embedding_laws.proofs.Bounds.{laid_of, lengths_of, lies}
 
@@ -34,9 +34,7 @@ sides_of layout is = record { sided = is.laid.sided; four = is.laid.four; paved 
 pub side_long : (layout : Layout) (patch : ℕ) (side : Way) (lengths : Lengths) (list : List SideArc)
     → list ≡ side_at layout patch side
     → count_below (sizes_on list lengths) (length list) ≡ size (gluing_of layout) lengths patch side
-side_long layout patch side lengths list same =
-    ap (λ (us : List SideArc). count_below (sizes_on us lengths) (length us))
-    same
+side_long layout patch side lengths list same = search rules
 
 -- What is read of a side.
 pub read_used : (side : List SideArc) (k : ℕ) → k < length side

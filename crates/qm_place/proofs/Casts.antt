@@ -1,29 +1,27 @@
 -- Numbers that fit their type, and products of such.
-use Rattle.std.proofs.Common.{◌≡◌, ℕ, zero, suc, ◌-◌, ◌*◌, ◌^◌, ◌<◌, ◌≤◌, ℤ, pos, negsuc, ◌+ℤ◌, ◌-ℤ◌, ◌*ℤ◌, to_z, of_z}
-use Rattle.std.proofs.Common.{◌∙◌, ap, arith, ◌+◌, ◌/◌, ◌%◌, List, length, Option, None, Some, sym, subst}
+use Rattle.std.proofs.Common.{rules, ◌≡◌, ℕ, zero, suc, ◌-◌, ◌*◌, ◌^◌, ◌<◌, ◌≤◌, ℤ, pos, negsuc, ◌+ℤ◌, ◌-ℤ◌, ◌*ℤ◌, to_z}
+use Rattle.std.proofs.Common.{of_z, ◌∙◌, ap, arith, ◌+◌, ◌/◌, ◌%◌, List, length, Option, sym, subst}
 use Rattle.std.proofs.{lemmas.Int.ints, lemmas.Nat.mul-le, Math.Nat.mul_comm}
 use Rattle.std.specs.{Prelude.unsigned_abs, Prelude.neg_ℤ, Int.int_div_euclid, Int.w64, Int.w128}
 use Rattle.def_written.specs.Places.{on_the_way, ONE, blend, parameter, parameter_back, ArcSpacing}
 use Rattle.def_written.specs.{Points.Point, Points.node, Points.along, Points.inside, Points.IsPoint}
 use Rattle.def_written.specs.{Numbers.before_arc, Numbers.before_patch, Numbers.vertices, Spacings.IsSpacing}
-use Rattle.written_laws.proofs.{Between.way_within, Between.blend_within, Spacings.even_edge, Spacings.step_is}
-use Rattle.written_laws.proofs.{Spacings.run_here, EdgeNumbers.in_rows, Rims.wide_some, Rims.high_some}
+use Rattle.written_laws.proofs.{Between.way_within, Between.blend_within, Spacings.even_edge, Spacings.run_here}
+use Rattle.written_laws.proofs.{EdgeNumbers.in_rows, Rims.wide_some, Rims.high_some}
 use Rattle.def_layout.specs.{Gluings.Gluing, Gluings.south, Gluings.east, Gluings.north, Gluings.west, Lengths.Lengths}
 use Rattle.def_layout.specs.{Lengths.wide, Lengths.high, Lengths.AreLengths, Layouts.Layout, Layouts.gluing_of}
 use Rattle.def_layout.specs.{Layouts.vertex_at, Arcs.long_at}
 use Rattle.def_map.specs.declared.spot.Spot.TheVariants.{AtVertex, InFace, OnEdge}
 use Rattle.def_map.specs.{Spots.edge_spot, Spots.face_spot, Spots.spot_at, Spots.spot_of}
 use Rattle.def_map.specs.{declared.spot.EdgeSpot.EdgeSpot, declared.spot.FaceSpot.FaceSpot}
-use Rattle.def_remesh.specs.{NewPoints.along_arcs, NewPoints.inside_patches, NewPoints.lengths_in, NewPoints.point_at}
-use Rattle.def_remesh.specs.{Placings.spacing_in, Placings.ArePlaces, Spaced.shares_along, Spaced.spacing_by}
-use Rattle.def_remesh.specs.{declared.places.PlaceTables.PlaceTables}
-use Rattle.map_laws.proofs.{Cells.at_arc, Cells.at_node, Cells.at_patch, Cells.is_point, Parameters.ahead_end}
-use Rattle.map_laws.proofs.{Parameters.back_end, Parameters.u_upto, Parameters.v_upto, OldPoints.spacing_is}
+use Rattle.def_remesh.specs.{NewPoints.lengths_in, NewPoints.point_at, Placings.spacing_in, Placings.ArePlaces}
+use Rattle.def_remesh.specs.{Spaced.spacing_by, declared.places.PlaceTables.PlaceTables}
+use Rattle.map_laws.proofs.{Cells.is_point, Parameters.ahead_end, Parameters.back_end, Parameters.u_upto}
+use Rattle.map_laws.proofs.{Parameters.v_upto, OldPoints.spacing_is}
 use Rattle.embedding_laws.proofs.Bounds.{side_few, vertices_few}
 use Rattle.qm_offsets.proofs.{Spots.term_room, Whole.laid_of, Whole.lengths_of}
-use Rattle.qm_place.proofs.Rims.{old_few, old_short}
+use Rattle.qm_place.{proofs.Rims.old_few, proofs.Rims.old_short, specs.Placed.ArePlaced, specs.Placed.IsSized}
 use Rattle.qm_place.specs.Spots.{grid_point, HasEnds, IsAlong, IsInside, IsShort, IsSmall}
-use Rattle.qm_place.specs.Placed.{ArePlaced, IsSized}
 use Rattle.{def_math.specs.Runs.run_at, def_mesh.specs.Faces.Faces, def_layoutnet.specs.MeshLayouts.IsSomeLayout}
 
 -- What is cast comes back.
@@ -94,7 +92,7 @@ weighed_is {a} {b} {f} {g} n {m} f_is g_is m_is a_le b_le small =
     weight = (λ i. to_z w128 (f_is i * g_is i)) ∙ natural (omega (arith, product))
 
     number : to_z w128 (of_z w128 m) ≡ n
-    number = ap (λ z. to_z w128 (of_z w128 z)) (m_is ∙ kept_half n (omega arith)) ∙ kept n (omega arith)
+    number = omega (arith, ints)
 
 pub part_is : (way : ℤ) {q twice one double : ℤ} (some : ℕ) {parts : ℕ} → (some < parts) → parts ≤ ONE
     → unsigned_abs way < 2 ^ 52
@@ -107,22 +105,14 @@ part_is way {q} {twice} {one} {double} some {parts} less le small twice_is one_i
     (ap (λ z. to_z w64 (of_z w64 z)) (kept q (omega (arith, few))) ∙ kept_half q (omega (arith, few)) ∙ quotient, few)
   where
     plain : twice ≡ pos (2 * some) *ℤ way
-    plain =
-        let e : some * 2 ≡ 2 * some = omega arith in
-        twice_is ∙ (λ i. pos (e i) *ℤ kept_half way (omega arith) i)
+    plain = search rules
 
     twice_few : unsigned_abs (pos (2 * some) *ℤ way) ≤ 2 ^ 33 * 2 ^ 52
     twice_few = times_few (2 * some) (2 ^ 33) way (2 ^ 52) (omega (arith, less, le)) (omega arith)
 
     sum : to_z w128 (of_z w128 (to_z w128 (of_z w128 twice) +ℤ to_z w128 (of_z w128 one)))
         ≡ (pos (2 * some) *ℤ way) +ℤ pos parts
-    sum = (λ i. to_z w128 (of_z w128 (to_z w128 (of_z w128 (plain i)) +ℤ to_z w128 (of_z w128 (one_is i)))))
-        ∙ (λ i. to_z w128
-        (of_z w128 (kept (pos (2 * some) *ℤ way) (omega (
-          arith,
-          twice_few,
-        )) i +ℤ kept (pos parts) (omega (arith, ints, le)) i)))
-        ∙ kept ((pos (2 * some) *ℤ way) +ℤ pos parts) (omega (arith, ints, twice_few, le))
+    sum = omega (arith, ints, plain, twice_few)
 
     bottom : to_z w128 (of_z w128 double) ≡ pos (2 * parts)
     bottom = ap (λ z. to_z w128 (of_z w128 z)) double_is ∙ kept (pos (2 * parts)) (omega (arith, ints, le))
@@ -133,18 +123,6 @@ part_is way {q} {twice} {one} {double} some {parts} less le small twice_is one_i
     few : unsigned_abs q ≤ 2 ^ 52
     few = omega (arith, part_few way less (omega arith), ap unsigned_abs quotient)
 
-pub way_is : (p q : ℤ) {r : ℤ} {some : ℕ} {parts : ℕ} → some < parts → IsMicro p → IsMicro q
-    → r ≡ int_div_euclid ((pos (2 * some) *ℤ to_z w64 (of_z w64 (to_z w64 (of_z w64 q) -ℤ to_z w64 (of_z w64 p)))) +ℤ
-    pos parts) (pos (2 * parts)) → unsigned_abs r ≤ 2 ^ 52
-    → to_z w64 (of_z w64 (to_z w64 (of_z w64 p) +ℤ to_z w64 (of_z w64 r))) ≡ on_the_way p q some parts
-way_is p q {r} {some} {parts} less p_small q_small r_is r_small = (λ i. to_z w64
-    (of_z w64 (kept_half p (omega arith) i +ℤ kept_half r (omega arith) i))) ∙ kept_half (p +ℤ r) (omega (arith, ints))
-    ∙ ap (λ z. p +ℤ z) (r_is ∙ ap (λ z. int_div_euclid ((pos (2 * some) *ℤ z) +ℤ pos parts) (pos (2 * parts))) gap)
-  where
-    gap : to_z w64 (of_z w64 (to_z w64 (of_z w64 q) -ℤ to_z w64 (of_z w64 p))) ≡ q -ℤ p
-    gap = (λ i. to_z w64 (of_z w64 (kept_half q (omega arith) i -ℤ kept_half p (omega arith) i)))
-        ∙ kept_half (q -ℤ p) (omega (arith, ints))
-
 -- Terms of a sum.
 abbrev IsTerm : ℤ → Type 0
 IsTerm z = unsigned_abs z ≤ 2 ^ 116
@@ -152,13 +130,7 @@ IsTerm z = unsigned_abs z ≤ 2 ^ 116
 pub sum_is : (a b c d : ℤ) → IsTerm a → IsTerm b → IsTerm c → IsTerm d
     → to_z w128 (of_z w128 (to_z w128 (of_z w128 (to_z w128 (of_z w128 a) +ℤ to_z w128 (of_z w128 b))) +ℤ to_z w128
     (of_z w128 (to_z w128 (of_z w128 c) +ℤ to_z w128 (of_z w128 d))))) ≡ (a +ℤ b) +ℤ (c +ℤ d)
-sum_is a b c d a_small b_small c_small d_small = (λ i. to_z w128 (of_z w128
-    (two a b a_small b_small i +ℤ two c d c_small d_small i))) ∙ kept ((a +ℤ b) +ℤ (c +ℤ d)) (omega (arith, ints))
-  where
-    two : (y z : ℤ) → IsTerm y → IsTerm z
-        → to_z w128 (of_z w128 (to_z w128 (of_z w128 y) +ℤ to_z w128 (of_z w128 z))) ≡ y +ℤ z
-    two y z y_small z_small = (λ i. to_z w128 (of_z w128 (kept y (omega arith) i +ℤ kept z (omega arith) i)))
-        ∙ kept (y +ℤ z) (omega (arith, ints))
+sum_is a b c d a_small b_small c_small d_small = omega (arith, ints)
 
 pub sum_fits : (a b c d : ℤ) → IsTerm a → IsTerm b → IsTerm c → IsTerm d → unsigned_abs ((a +ℤ b) +ℤ (c +ℤ d)) ≤ 2 ^ 118
 sum_fits a b c d a_small b_small c_small d_small = omega (arith, ints)
@@ -200,7 +172,7 @@ mean_is {s} {t} {a} {b} {c} {d} {wa} {wb} {wc} {wd} are is =
 
 -- A coordinate that is cast.
 pub cast_micro : (z : ℤ) → IsMicro z → to_z w64 (of_z w64 (to_z w128 (of_z w128 z))) ≡ z
-cast_micro z small = ap (λ n. to_z w64 (of_z w64 n)) (kept z (omega arith)) ∙ kept_half z (omega arith)
+cast_micro z small = omega (arith, ints)
 
 -- Where the vertices of the new mesh lie, as the tables tell.
 
@@ -230,18 +202,14 @@ module _ (layout : Layout) (shares : Option (List ℕ)) (new : Lengths) where
 
   -- A node, by its number.
   pub found_at : {v u : ℕ} → v < length layout.nodes → u ≡ vertex_at layout v → AtVertex u ≡ spot_at layout shares new v
-  found_at {v} low same = ap AtVertex same ∙ ap (spot_of layout new (spacing_by layout shares new))
-      (sym (at_node (gluing_of layout) new v low))
+  found_at {v} low same = search rules
 
   -- A vertex on an arc.
   pub found_on : {v place arc : ℕ} {spot : EdgeSpot} → length layout.nodes ≤ v → place ≡ v - length layout.nodes
       → place < before_arc new (length layout.arcs) → arc ≡ run_at (before_arc new) (length layout.arcs) place
       → spot ≡ edge_spot layout (spacing_by layout shares new) arc (place - before_arc new arc + 1)
       → OnEdge spot ≡ spot_at layout shares new v
-  found_on {v} {place} from place_is low same spot_is = ap OnEdge spot_is ∙ (λ t. spot_of layout new
-      (spacing_by layout shares new) (along (same t) (place - before_arc new (same t) + 1))) ∙ ap (λ k. spot_of layout
-      new (spacing_by layout shares new) (along_arcs (gluing_of layout) new k)) place_is ∙ ap (spot_of layout new
-      (spacing_by layout shares new)) (sym (at_arc (gluing_of layout) new v from (omega (arith, from, low, place_is))))
+  found_on {v} {place} from place_is low same spot_is = search rules
 
   -- A vertex inside a patch.
   pub found_in : {v place patch : ℕ} {spot : FaceSpot} → length layout.nodes + before_arc new (length layout.arcs) ≤ v
@@ -251,24 +219,13 @@ module _ (layout : Layout) (shares : Option (List ℕ)) (new : Lengths) where
       ((place - before_patch (gluing_of layout) new patch) % (wide (gluing_of layout) new patch - 1) + 1)
       ((place - before_patch (gluing_of layout) new patch) / (wide (gluing_of layout) new patch - 1) + 1)
       → InFace spot ≡ spot_at layout shares new v
-  found_in {v} {place} from place_is same spot_is =
-      ap InFace spot_is ∙ (λ t. spot_of layout new (spacing_by layout shares new) (inside (same t)
-      ((place - before_patch (gluing_of layout) new (same t)) % (wide (gluing_of layout) new (same t) - 1) + 1)
-      ((place - before_patch (gluing_of layout) new (same t)) / (wide (gluing_of layout) new (same t) - 1) + 1)))
-      ∙ ap (λ k. spot_of layout new (spacing_by layout shares new) (inside_patches (gluing_of layout) new k)) place_is
-      ∙ ap (spot_of layout new (spacing_by layout shares new)) (sym (at_patch (gluing_of layout) new v from))
+  found_in {v} {place} from place_is same spot_is = search rules
 
 -- Edges are divided in few parts.
 pub short_step : {layout : Layout} (shares : Option (List ℕ)) {new : Lengths} → IsSomeLayout layout
     → AreLengths (gluing_of layout) new → ((arc : ℕ) → arc < length layout.arcs → new arc ≤ 2 ^ 24)
     → {arc k : ℕ} → arc < length layout.arcs → k < new arc → ((spacing_by layout shares new).step arc k).parts ≤ ONE
-short_step None is len short {arc} {k} low less = omega arith
-short_step {layout} (Some shares) {new} is len short {arc} {k} low less =
-    omega (
-      arith,
-      (step_is (gluing_of layout) (long_at layout.arcs) new (shares_along layout shares) (lengths_of layout is) len
-          arc k low less).parts,
-    )
+short_step h1 h2 h3 h4 h5 h6 = search rules
 
 pub short_spot : {layout : Layout} (shares : Option (List ℕ)) {new : Lengths} → IsSomeLayout layout
     → AreLengths (gluing_of layout) new → ((arc : ℕ) → arc < length layout.arcs → new arc ≤ 2 ^ 24) → {v : ℕ}
@@ -302,21 +259,9 @@ module _ (faces : Faces) (layout : Layout) (tables : PlaceTables) (are : ArePlac
   few_points : vertices (gluing_of layout) (lengths_in tables.lengths.items) ≤ 2 ^ 23
   few_points = omega (arith, vertices_few l new (laid_of layout is) are.lengths)
 
-  -- Lengths are short.
-  new_short : (arc : ℕ) → arc < length layout.arcs → lengths_in tables.lengths.items arc ≤ 2 ^ 24
-  new_short arc low = omega (arith, term_room (λ b. new b - 1) (length layout.arcs) arc low, few_points)
-
   spaced : IsSpacing (gluing_of layout) (long_at layout.arcs) (lengths_in tables.lengths.items)
       (spacing_in layout tables)
   spaced = spacing_is layout is new are.lengths are.few _
-
-  patch_narrow : (p : ℕ) → p < length layout.patches
-      → wide (gluing_of layout) (lengths_in tables.lengths.items) p ≤ 2 ^ 21
-  patch_narrow p low = omega (arith, side_few l new (laid_of layout is) are.lengths p south low)
-
-  patch_short : (p : ℕ) → p < length layout.patches
-      → high (gluing_of layout) (lengths_in tables.lengths.items) p ≤ 2 ^ 21
-  patch_short p low = omega (arith, side_few l new (laid_of layout is) are.lengths p west low)
 
   -- What is read of the tables.
   sized : (p : ℕ) → p < length layout.patches → IsSized layout p
@@ -332,29 +277,24 @@ module _ (faces : Faces) (layout : Layout) (tables : PlaceTables) (are : ArePlac
 
   -- What stands in no table.
   ends_of : (p : ℕ) → p < length layout.patches → HasEnds layout new spacing p
-  ends_of p low = record {
-    south = ahead_end l old new spacing (laid_of layout is) (lengths_of layout is) are.lengths spaced p south low;
-    east = ap (parameter l old new spacing p east) (sym (are.lengths.upright p low)) ∙ ahead_end l old new spacing
-        (laid_of layout is) (lengths_of layout is) are.lengths spaced p east low ∙ omega arith;
-    north = ap (parameter_back l old new spacing p north) (sym (are.lengths.across p low))
-        ∙ back_end l old new spacing (laid_of layout is) (lengths_of layout is) are.lengths spaced p north low;
-    west = back_end l old new spacing (laid_of layout is) (lengths_of layout is) are.lengths spaced p west low;
-  }
+  ends_of p low =
+      let ahead = ahead_end l old new spacing (laid_of layout is) (lengths_of layout is) are.lengths spaced p in
+      let back = back_end l old new spacing (laid_of layout is) (lengths_of layout is) are.lengths spaced p in
+      record {
+        south = ahead south low;
+        east = ap (parameter l old new spacing p east) (sym (are.lengths.upright p low)) ∙ ahead east low ∙ omega arith;
+        north = ap (parameter_back l old new spacing p north) (sym (are.lengths.across p low)) ∙ back north low;
+        west = back west low;
+      }
 
   small_of : (p i j : ℕ) → p < length layout.patches → i ≤ wide l new p → j ≤ high l new p
       → IsSmall (grid_point layout new spacing p i j)
-  small_of p i j low i_le j_le = (
-    omega (
-      arith,
-      u_upto l old new spacing (laid_of layout is) (lengths_of layout is) are.lengths spaced p i j low i_le j_le,
-      old_few is south low,
-    ),
-    omega (
-      arith,
-      v_upto l old new spacing (laid_of layout is) (lengths_of layout is) are.lengths spaced p i j low i_le j_le,
-      old_few is west low,
-    ),
-  )
+  small_of p i j low i_le j_le =
+      let laid = laid_of layout is in
+      let long = lengths_of layout is in
+      let u = u_upto l old new spacing laid long are.lengths spaced p i j low i_le j_le in
+      let v = v_upto l old new spacing laid long are.lengths spaced p i j low i_le j_le in
+      (omega (arith, u, old_few is south low), omega (arith, v, old_few is west low))
 
   pub placed_of : ArePlaced layout tables
   placed_of = record {
@@ -365,9 +305,9 @@ module _ (faces : Faces) (layout : Layout) (tables : PlaceTables) (are : ArePlac
     lengths = are.lengths;
     few = few_points;
     few_faces = are.few;
-    short = new_short;
-    narrow = patch_narrow;
-    low = patch_short;
+    short = λ arc low. omega (arith, term_room (λ b. new b - 1) (length layout.arcs) arc low, few_points);
+    narrow = λ p low. omega (arith, side_few l new (laid_of layout is) are.lengths p south low);
+    low = λ p low. omega (arith, side_few l new (laid_of layout is) are.lengths p west low);
     along = are.along;
     inside = are.inside;
     spaced = are.spaced;

@@ -1,20 +1,19 @@
 -- The tables that are built tell the places.
-use Rattle.std.proofs.Common.{◌≡◌, ℕ, ◌-◌, ◌*◌, ◌^◌, ◌<◌, List, length, ap, arith, ◌+◌, ◌/◌, ◌≤◌, Bool, true, false}
-use Rattle.std.proofs.Common.{cond, not, [], ◌∷◌, ◌++◌, length-append, sym, ◌∙◌, subst, inl, inr}
-use Rattle.std.proofs.{lemmas.Bool.cases_lt, lemmas.List.get_or_append_left, lemmas.List.get_or_push, lemmas.Nat.mul-le}
-use Rattle.std.proofs.{Math.Nat.mul_comm}
+use Rattle.std.proofs.Common.{rules, ◌≡◌, ℕ, ◌-◌, ◌*◌, ◌^◌, ◌<◌, List, length, ap, arith, ◌+◌, ◌/◌, ◌≤◌, Bool, true}
+use Rattle.std.proofs.Common.{false, cond, [], ◌∷◌, ◌++◌, length-append, sym, ◌∙◌, inl, inr}
+use Rattle.std.proofs.{lemmas.Bool.cases_lt, lemmas.List.get_or_append_left, lemmas.List.get_or_push}
 use Rattle.def_layout.specs.Gluings.{Way, south, east, north, west, Gluing, IsSlot}
 use Rattle.def_layout.specs.{Lengths.wide, Lengths.high, Lengths.Lengths, Lengths.reach, Lengths.size, Layouts.Layout}
 use Rattle.def_layout.specs.{Layouts.gluing_of, Arcs.long_at, declared.tmesh.SideArc.SideArc}
 use Rattle.def_written.specs.{Places.ArcSpacing, Places.ONE, Places.parameter, Places.parameter_back, Points.use_over}
 use Rattle.def_remesh.specs.{Placings.rim_at, Placings.IsRim, Placings.side_parameter, Placings.AreParameters}
 use Rattle.def_remesh.specs.{NewPoints.lengths_in, Numberings.AreRunStarts, declared.places.Rim.Rim}
-use Rattle.qm_offsets.proofs.Spots.{starts_same, term_room, count_step}
+use Rattle.qm_offsets.proofs.Spots.{starts_same, term_room}
 use Rattle.written_laws.proofs.{Rims.wide_some, Rims.high_some, Between.div_most, Sides.slot, Sides.over_is}
 use Rattle.qm_place.specs.{ArcTables.AreFine, Spots.inner_of, Pushed.on_arc, Pushed.ArePushed, Pushed.IsKept}
 use Rattle.{std.specs.Prelude.slice_index, def_math.specs.Counts.count_below, sum_laws.proofs.Sums.count_below_same}
 
-module _ (layout : Layout) (list : List ℕ) (fine : AreFine layout list) where
+module _ {layout : Layout} {list : List ℕ} (fine : AreFine layout list) where
   -- Each length is short, and so are all arcs together.
   pub lengths_short : (arc : ℕ) → arc < length list → slice_index list arc < 2 ^ 32
   lengths_short arc low =
@@ -27,7 +26,7 @@ module _ (layout : Layout) (list : List ℕ) (fine : AreFine layout list) where
   abbrev inner : ℕ → ℕ
   inner p = (wide (gluing_of layout) (lengths_in list) p - 1) * (high (gluing_of layout) (lengths_in list) p - 1)
 
-  module _ (spacing : ArcSpacing) (rims : List Rim) (parameters : List ℕ) {count : ℕ} (all : count
+  module _ {spacing : ArcSpacing} (rims : List Rim) {parameters : List ℕ} {count : ℕ} (all : count
       ≡ length layout.patches)
       (are : (p : ℕ) → p < count → IsRim layout (lengths_in list) spacing p (rim_at rims p) parameters) where
     -- Patches are not empty.
@@ -45,10 +44,10 @@ module _ (layout : Layout) (list : List ℕ) (fine : AreFine layout list) where
     pub inner_short : count_below (inner_of rims) count < 2 ^ 32
     inner_short = omega (arith, ap (count_below inner) all, count_below_same (inner_of rims) inner count inner_is)
 
-    pub inner_starts : (starts : List ℕ) → AreRunStarts (inner_of rims) count starts
+    pub inner_starts : {starts : List ℕ} → AreRunStarts (inner_of rims) count starts
         → AreRunStarts (λ p. (wide (gluing_of layout) (lengths_in list) p - 1) *
         (high (gluing_of layout) (lengths_in list) p - 1)) (length layout.patches) starts
-    inner_starts starts begin = rw (← all) (starts_same (inner_of rims) inner count starts inner_is begin)
+    inner_starts begin = rw (← all) (starts_same (inner_of rims) inner count _ inner_is begin)
 
 -- Lists that grow at their end, and the parameters of a side that are put there arc by arc.
 
@@ -80,38 +79,18 @@ pub pushed_kept : {a b : List ℕ} {n : ℕ} {f : ℕ → ℕ} → ArePushed a b
 pushed_kept p = record { long = omega arith; kept = p.kept }
 
 pub kept_on : {a b c : List ℕ} → IsKept a b → IsKept b c → IsKept a c
-kept_on p q = record {
-  long = omega arith;
-  kept = λ k low. q.kept k (omega arith) ∙ p.kept k low;
-}
+kept_on p q = search rules
 
 -- A parameter is at most that of the end of the arc.
 pub part_most : {k : ℕ} (old : ℕ) {new : ℕ} → k ≤ new → 0 < new → ONE * k * old / new ≤ ONE * old
-part_most {k} old {new} le some = div_most _ _ new some (by_parts k old new le)
-  where
-    by_parts : (i m n : ℕ) → i ≤ n → ONE * i * m ≤ ONE * m * n
-    by_parts i m n less = let e : i * m ≤ m * n =
-        subst (λ z. i * m ≤ z) (mul_comm n m) (mul-le i m n m less (omega arith)) in omega arith
+part_most {k} old {new} le some = search (rules, div_most)
 
 -- Parameters that were put behind others, and stay there.
 pub parameters_in : (layout : Layout) (new : Lengths) (spacing : ArcSpacing) (p : ℕ) (s : Way) {begin : ℕ} {a : List ℕ}
     {b c : List ℕ}
     → begin ≡ length a → ArePushed a b (size (gluing_of layout) new p s) (side_parameter layout new spacing p s)
     → IsKept b c → AreParameters layout new spacing p s begin c
-parameters_in layout new spacing p s {begin} {a} {c} here p_ed kept = record {
-  room = omega arith;
-  each = λ k low.
-      let place : begin + k ≡ length a + k = omega arith in
-      ap (slice_index c) place ∙ kept.kept _ (omega arith) ∙ p_ed.each k low;
-}
-
-pub parameters_kept : {layout : Layout} {new : Lengths} {spacing : ArcSpacing} {p : ℕ} {s : Way} {begin : ℕ}
-    {a b : List ℕ}
-    → IsKept a b → AreParameters layout new spacing p s begin a → AreParameters layout new spacing p s begin b
-parameters_kept {begin} kept are = record {
-  room = omega arith;
-  each = λ k low. kept.kept _ (omega arith) ∙ are.each k low;
-}
+parameters_in layout new spacing p s {begin} {a} {c} here p_ed kept = search rules
 
 -- Whether a side runs against its parameter.
 abbrev pub is_back : (s : Way) → Bool
@@ -133,21 +112,11 @@ module _ (l : Gluing) (old new : Lengths) (spacing : ArcSpacing) (p i : ℕ) (s 
 
   ahead : parameter l old new spacing p s (reach l new p s i + o)
       ≡ on_arc spacing (reach l old p s i) (new used.arc) used false o
-  ahead = ap (λ m. ONE * reach l old p s m + spacing.parameter_of (l.use_at p s m).arc (l.use_at p s m).forward
-      (reach l new p s i + o - reach l new p s m)) over
-      ∙ ap (λ k. ONE * reach l old p s i + spacing.parameter_of used.arc used.forward k) rest
+  ahead = search (rules, over)
 
   behind : parameter_back l old new spacing p s (reach l new p s i + o)
       ≡ on_arc spacing (size l old p s - reach l old p s i - old used.arc) (new used.arc) used true o
-  behind =
-      let next : reach l old p s (i + 1) ≡ reach l old p s i + old used.arc =
-      count_step (λ k. old (l.use_at p s k).arc) i in
-      let left : size l old p s - reach l old p s (i + 1) ≡ size l old p s - reach l old p s i - old used.arc =
-      omega (arith, next) in
-      ap (λ m. ONE * (size l old p s - reach l old p s (m + 1))
-      + spacing.parameter_of (l.use_at p s m).arc (not (l.use_at p s m).forward)
-      (new (l.use_at p s m).arc - (reach l new p s i + o - reach l new p s m))) over
-      ∙ (λ t. ONE * left t + spacing.parameter_of used.arc (not used.forward) (new used.arc - rest t))
+  behind = search (rules, over)
 
   -- The parameter of a place of the arc at a slot, counted along the side or against it.
   pub along_slot : {start : ℕ} → start ≡ reach l old p s i

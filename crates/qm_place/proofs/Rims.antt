@@ -1,19 +1,17 @@
 -- New vertices lie between the old ones.
-use Rattle.std.proofs.Common.{◌≡◌, ℕ, zero, suc, ◌<◌, List, length, Option, refl, sym, ap, subst, arith, ◌+◌, ◌-◌, ◌*◌}
-use Rattle.std.proofs.Common.{◌/◌, ◌≤◌, false, ◌∙◌, inl, inr, mul-add, ◌^◌, Bool, true, cond, [], get_or, ◌%◌, Some}
-use Rattle.std.proofs.lemmas.Bool.{cases_eq, cond-true, cond-false, lt-ltb, le-ltb, ne_eqb, cond_both}
-use Rattle.std.proofs.lemmas.List.{get_or_default, get_or-map, length-map, get_or_read}
-use Rattle.std.proofs.lemmas.Nat.{mul-le}
-use Rattle.std.specs.Prelude.{◌≤ℤ◌, nat_lt, ◌==◌, nat_le, slice_index}
+use Rattle.std.proofs.Common.{rules, ◌≡◌, ℕ, zero, suc, ◌<◌, List, length, Option, refl, sym, ap, subst, arith, ◌+◌}
+use Rattle.std.proofs.Common.{◌-◌, ◌*◌, ◌/◌, ◌≤◌, false, ◌∙◌, inl, inr, ◌^◌, Bool, true, cond, [], get_or, ◌%◌, Some}
+use Rattle.std.proofs.lemmas.Bool.{cases_eq, cond-true, cond-false, lt-ltb, le-ltb}
+use Rattle.std.proofs.lemmas.{List.get_or_default, List.get_or-map, List.length-map, List.get_or_read, Nat.mul-le}
+use Rattle.std.specs.Prelude.{◌≤ℤ◌, nat_lt, nat_le, slice_index}
 use Rattle.def_mesh.specs.{Faces.Faces, Vertices.vertex_count}
 use Rattle.def_layout.specs.Layouts.{Layout, gluing_of, way_number, layout_of, side_at}
 use Rattle.def_layout.specs.Gluings.{Way, south, east, north, west, Gluing, IsSlot}
-use Rattle.def_layout.specs.{Arcs.long_at, Arcs.path_at, Arcs.Path, Arcs.path, Arcs.dart_at, Lengths.Lengths}
-use Rattle.def_layout.specs.{Lengths.AreLengths, Lengths.reach, Lengths.size, declared.tmesh.SideArc.SideArc}
-use Rattle.def_layout.specs.{declared.tmesh.TArc.TArc, declared.tmesh.TMesh.TMesh}
-use Rattle.def_written.specs.Spacings.{IsSpacing, counted, inner_step, shared_step, step_parameter, Shares}
-use Rattle.def_written.specs.{Numbers.vertices, Numbers.before_arc, Places.ONE, Places.ArcSpacing, Places.Step}
-use Rattle.def_written.specs.{NewFaces.face_count}
+use Rattle.def_layout.specs.{Arcs.long_at, Arcs.path_at, Arcs.path, Arcs.dart_at, Lengths.Lengths, Lengths.AreLengths}
+use Rattle.def_layout.specs.{Lengths.reach, Lengths.size, declared.tmesh.SideArc.SideArc, declared.tmesh.TArc.TArc}
+use Rattle.def_layout.specs.{declared.tmesh.TMesh.TMesh}
+use Rattle.def_written.specs.Spacings.{IsSpacing, counted, inner_step, shared_step, step_parameter}
+use Rattle.def_written.specs.{Numbers.vertices, Numbers.before_arc, Places.ONE, Places.ArcSpacing, NewFaces.face_count}
 use Rattle.def_remesh.specs.Placings.{coordinate_in, IsMeshLayout, LiesBetween, parameters_from, side_parameter}
 use Rattle.def_remesh.specs.Placings.{AreParameters, IsRim, shares_in, IsSpaced}
 use Rattle.def_remesh.specs.{NewSoup.coordinate, NewSoup.new_coordinate, NewSoup.spaced_place, NewPoints.point_at}
@@ -27,8 +25,7 @@ use Rattle.written_laws.proofs.{Spacings.div_less, Sides.reach_low, Sides.slot}
 use Rattle.def_math.specs.{Counts.count_below, Runs.run_at}
 use Rattle.qm_place.specs.{Paths.share_by, Pushed.on_arc, Pushed.ArePushed, Pushed.IsKept, ArcTables.AreFine}
 use Rattle.embedding_laws.proofs.Bounds.{old_faces, side_few, vertices_few}
-use Rattle.qm_place.proofs.Pushes.{is_back, kept_on, parameters_in, parameters_kept, pushed_join, pushed_kept}
-use Rattle.qm_place.proofs.Pushes.{slot_parameter, start_by}
+use Rattle.qm_place.proofs.Pushes.{is_back, kept_on, parameters_in, pushed_join, pushed_kept, slot_parameter, start_by}
 use Rattle.def_map.specs.{Spots.edge_spot, declared.spot.EdgeSpot.EdgeSpot}
 use Rattle.{def_text.specs.Types.Positions, def_cut.specs.Grids.rectangle, def_layoutnet.specs.MeshLayouts.IsSomeLayout}
 
@@ -69,8 +66,8 @@ run_is start (suc n) t e rises low from to = elim (cases_eq e n) [
       (omega (arith, to, rises (suc e) n (omega arith)))) ∙ run_is start n t e rises (omega arith) from to
 ]
 
-module _ (share : ℕ → ℕ) (m n k : ℕ) (all : ℕ) (whole : all ≡ count_below share m) (some : 0 < all) (less : k < n)
-    (e before : ℕ) (low : e < m) (before_is : before ≡ count_below share e) where
+module _ (share : ℕ → ℕ) {m n k all : ℕ} (whole : all ≡ count_below share m) (some : 0 < all) (less : k < n)
+    {e before : ℕ} (low : e < m) (before_is : before ≡ count_below share e) where
   -- The shares up to the end of an old edge.
   pub next_is : before + share e ≡ count_below share (e + 1)
   next_is = let one : e + 1 ≡ suc e = omega arith in omega (arith, ap (count_below share) one)
@@ -98,30 +95,12 @@ module _ (share : ℕ → ℕ) (m n k : ℕ) (all : ℕ) (whole : all ≡ count_
 
   -- The rest of a place in its edge is less than its share.
   pub rest_low : n * before ≤ k * all → e ≡ (inner_step share m n k).edge → k * all - n * before < n * share e
-  rest_low from same = omega (arith, to, sum, from)
-    where
-      start : ℕ → ℕ
-      start i = n * count_below share i
-
-      less_all : k * count_below share m < n * count_below share m
-      less_all =
-          let more : (k + 1) * count_below share m ≤ n * count_below share m =
-          mul-le _ _ n _ (omega arith) (omega arith) in
-          omega arith
-
-      to : k * all < n * count_below share (suc e)
-      to = subst (λ i. k * all < n * count_below share (suc i)) (sym same)
-          (subst (λ z. k * z < n * count_below share (suc (inner_step share m n k).edge)) (sym whole)
-          (run_to (λ i. n * count_below share i) m _ (omega arith) less_all))
-
-      sum : n * count_below share (suc e) ≡ n * before + n * share e
-      sum = mul-add n _ (share e) ∙ ap (λ z. n * z + n * share e) (sym before_is)
+  rest_low from same = search (rules, run_to)
 
   -- As a part of its share it is a part of a parameter.
   pub part_low : n * before ≤ k * all → e ≡ (inner_step share m n k).edge
       → ONE * (k * all - n * before) / (n * share e) < ONE
-  part_low from same = div_less (ONE * (k * all - n * before)) ONE (n * share e) (omega (arith, rest_low from same))
-      (omega (arith, rest_low from same))
+  part_low from same = search (rules, div_less, rest_low)
 
 -- The parameter of an inner point of an arc of a layout is that of the path of its darts.
 pub arc_parameter : (layout : Layout) (new : Lengths) (shares : List ℕ) (arc : ℕ) {k : ℕ} {darts : List ℕ}
@@ -135,8 +114,7 @@ arc_parameter layout new shares arc {k} same some less =
   where
     inside : shared_step (long_at layout.arcs) new (shares_along layout shares) arc k ≡ inner_step
         (counted (shares_along layout shares arc) (long_at layout.arcs arc)) (long_at layout.arcs arc) (new arc) k
-    inside = cond-false (k == 0) _ _ (ne_eqb k 0 (λ e. omega arith)) ∙ cond-false (k == new arc)
-        _ _ (ne_eqb k (new arc) (λ e. omega arith))
+    inside = search rules
 
 -- The parameters of all sides, as they are put one after the other.
 
@@ -183,8 +161,7 @@ fine_of {layout} {list} is long lengths few = record {
 -- What is read of an arc.
 pub old_read : (t : TMesh) {a : ℕ} {arc : TArc} → a < length t.arcs.items → arc ≡ get_or t.arcs.items a arc
     → length arc.darts.items ≡ long_at (layout_of t).arcs a
-old_read t {a} {arc} low same = ap (λ (z : TArc). length z.darts.items) same
-    ∙ sym (ap (λ (q : Path). length q.darts) (get_or-map path _ a arc (record { first = 0; last = 0; darts = [] }) low))
+old_read t {a} {arc} low same = search (rules, get_or-map)
 
 -- The arc at a place of a side, as it is read.
 module _ (t : TMesh) where
@@ -232,13 +209,7 @@ module _ (t : TMesh) where
 
 -- North and west are the sides numbered from 2 on.
 pub back_by : (s : Way) {side : ℕ} → way_number s ≡ side → nat_le 2 side ≡ is_back s
-back_by s way = rw (← way) (by_way s)
-  where
-    by_way : (w : Way) → nat_le 2 (way_number w) ≡ is_back w
-    by_way south = refl
-    by_way east = refl
-    by_way north = refl
-    by_way west = refl
+back_by s way = search rules
 
 -- Another arc of a side is put there.
 pub side_more : {t : TMesh} {list : List ℕ} (spacing : ArcSpacing) {p i : ℕ} {s : Way} {used : SideArc} {z : List ℕ}
@@ -260,8 +231,7 @@ side_more {t} {list} spacing {p} {i} {s} {used} {z} {a} {b} {start} {back} is ba
         (omega (arith, ap (λ (u : SideArc). lengths_in list u.arc) is.same)) start_is
 
 pub start_few : {w : ℕ} (b o : ℕ) (back : Bool) → b + o ≤ w → w ≤ 2 ^ 21 → cond back (w - b - o) b ≤ 2 ^ 21
-start_few b o true le few = omega arith
-start_few b o false le few = omega arith
+start_few b o back le few = grind arith
 
 -- The four sides of a patch.
 pub rim_built : {layout : Layout} {list : List ℕ} (spacing : ArcSpacing) → AreFine layout list → {p : ℕ}
@@ -304,8 +274,7 @@ rim_built {layout} {list} spacing fine {p} low {z} {a} {b} {c} {d} {begin} {w} {
 
 pub rim_kept : {layout : Layout} {new : Lengths} {spacing : ArcSpacing} {p : ℕ} {rim : Rim} {a : List ℕ} {b : List ℕ}
     → IsKept a b → IsRim layout new spacing p rim a → IsRim layout new spacing p rim b
-rim_kept {layout} {new} {spacing} {p} {a} {b} kept is =
-    record { wide = is.wide; high = is.high; sides = λ s. parameters_kept kept (is.sides s) }
+rim_kept {layout} {new} {spacing} {p} {a} {b} kept is = search rules
 
 -- The points of arcs by shares, as their table tells them.
 
@@ -321,8 +290,8 @@ pub points_few : {layout : Layout} {list : List ℕ} → AreFine layout list →
 points_few {layout} {list} fine {arc} {place} low less =
     omega (arith, place_low (λ b. lengths_in list b - 1) (length layout.arcs) arc place low less)
 
-module _ (layout : Layout) (new : Lengths) (o : Option Spaced) (told : IsSpaced layout new o) (spaced : Spaced)
-    (is : o ≡ Some spaced) (arc k : ℕ) (low : arc < length layout.arcs) (some : 0 < k) (less : k < new arc) where
+module _ (layout : Layout) (new : Lengths) {o : Option Spaced} (told : IsSpaced layout new o) {spaced : Spaced}
+    (is : o ≡ Some spaced) {arc k : ℕ} (low : arc < length layout.arcs) (some : 0 < k) (less : k < new arc) where
   pub inner_low : before_arc new arc + k - 1 < length spaced.parameters.items
   inner_low = omega (
     arith,
@@ -332,26 +301,12 @@ module _ (layout : Layout) (new : Lengths) (o : Option Spaced) (told : IsSpaced 
 
   inner_value : slice_index spaced.parameters.items (before_arc new arc + k - 1)
       ≡ (spacing_by layout (shares_in o) new).parameter_of arc true k
-  inner_value = (told spaced is).each arc k low some less
-      ∙ ap (λ (p : Option Spaced). (spacing_by layout (shares_in p) new).parameter_of arc true k) (sym is)
+  inner_value = search rules
 
   -- What is read there.
   pub read_inner : {index read : ℕ} → index ≡ before_arc new arc + k - 1 → read
       ≡ get_or spaced.parameters.items index read → read ≡ (spacing_by layout (shares_in o) new).parameter_of arc true k
-  read_inner {index} {read} place same = get_or_read _ index read
-      (omega (arith, place, inner_low)) same 0 ∙ ap (slice_index spaced.parameters.items) place ∙ inner_value
-
--- The parts of a step by shares are those of a parameter.
-parts_are : (old new : Lengths) (shares : Shares) (arc k : ℕ) → (shared_step old new shares arc k).parts ≡ ONE
-parts_are old new shares arc k = cond_both (k == 0) _ _ (λ (s : Step). s.parts ≡ ONE) (λ e. refl)
-    (λ e. cond_both (k == new arc) _ _ (λ (s : Step). s.parts ≡ ONE) (λ f. refl) (λ f. refl))
-
--- A parameter tells its step.
-edge_told : (step : Step) → step.some < ONE → step_parameter step / ONE ≡ step.edge
-edge_told step less = omega arith
-
-some_told : (step : Step) → step.some < ONE → step_parameter step % ONE ≡ step.some
-some_told step less = omega arith
+  read_inner {index} {read} place same = search (rules, get_or_read, inner_low, inner_value)
 
 -- Where a point of an arc lies, by its parameter.
 pub spot_told : (layout : Layout) {new : Lengths} {o : Option Spaced} (spaced : Spaced) → o ≡ Some spaced
@@ -360,26 +315,4 @@ pub spot_told : (layout : Layout) {new : Lengths} {o : Option Spaced} (spaced : 
     ≡ (spacing_by layout (shares_in o) new).parameter_of arc true k → {spot : EdgeSpot} → spot
     ≡ record { dart = dart_at layout.arcs arc (parameter / ONE); some = parameter % ONE; parts = ONE } → spot
     ≡ edge_spot layout (spacing_by layout (shares_in o) new) arc k
-spot_told layout {new} spaced is spacing {arc} {k} {parameter} low less told spot_is =
-    spot_is ∙ (λ i. record {
-      dart = dart_at layout.arcs arc ((ap (λ n. n / ONE) here ∙ edge_told step some) i);
-      some = (ap (λ n. n % ONE) here ∙ some_told step some) i;
-      parts = sym parts i;
-    })
-    ∙ ap (λ (p : Option Spaced). edge_spot layout (spacing_by layout (shares_in p) new) arc k) (sym is)
-  where
-    step : Step
-    step = shared_step (long_at layout.arcs) new (shares_along layout spaced.shares) arc k
-
-    parts : (shared_step (long_at layout.arcs) new (shares_along layout spaced.shares) arc k).parts ≡ ONE
-    parts = parts_are (long_at layout.arcs) new (shares_along layout spaced.shares) arc k
-
-    spacing_here : IsSpacing (gluing_of layout) (long_at layout.arcs) new (spacing_by layout (Some spaced.shares) new)
-    spacing_here = subst (λ (p : Option Spaced). IsSpacing (gluing_of layout) (long_at layout.arcs) new
-        (spacing_by layout (shares_in p) new)) is spacing
-
-    some : (shared_step (long_at layout.arcs) new (shares_along layout spaced.shares) arc k).some < ONE
-    some = omega (arith, spacing_here.parts arc k low less, parts)
-
-    here : parameter ≡ step_parameter (shared_step (long_at layout.arcs) new (shares_along layout spaced.shares) arc k)
-    here = told ∙ ap (λ (p : Option Spaced). (spacing_by layout (shares_in p) new).parameter_of arc true k) is
+spot_told layout {new} spaced is spacing {arc} {k} {parameter} low less told spot_is = search rules

@@ -17,6 +17,7 @@ use def_map::{Home, Seen};
 
 impl Placed<'_> {
     /// Where the new face in column i and row j of a patch lies in the old mesh.
+    #[tactic(auto, using(crate::proofs::Entries::patch_read))]
     pub fn home(&self, patch: usize, i: u32, j: u32) -> Home
         requires patch { patch < length self.now.t.now.patches.items }
         requires column { i < wide (gluing_of (layout_of self.now.t.now))

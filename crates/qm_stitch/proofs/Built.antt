@@ -1,29 +1,20 @@
 -- The tables that are built number the layout.
-use Rattle.std.proofs.Common.{◌≡◌, ℕ, ◌-◌, ◌*◌, ◌^◌, ◌<◌, ◌≤◌, List, length, sym, ◌∙◌, ap, arith, ◌⊎◌, ◌↔◌, suc, ◌+◌}
-use Rattle.std.proofs.Common.{◌||◌, Bool, true, false, [], ◌∷◌, get_or, inl, inr}
-use Rattle.std.proofs.lemmas.Bool.{cases_eq, eq-eqb, eqb-true, false≢true, or_cases, or_left, or_right}
-use Rattle.std.proofs.{lemmas.Nat.mul-le, lemmas.List.length-map, lemmas.List.Folds.list_any_at}
-use Rattle.std.specs.{Prelude.slice_index, Prelude.◌==◌, List.list_any}
+use Rattle.std.proofs.Common.{◌≡◌, ℕ, ◌-◌, ◌*◌, ◌^◌, ◌<◌, ◌≤◌, List, length, sym, ◌∙◌, ap, arith, ◌⊎◌, ◌↔◌, ◌+◌, ◌||◌}
+use Rattle.std.proofs.Common.{Bool, true, false, get_or, inl, inr}
+use Rattle.std.proofs.lemmas.{Bool.eq-eqb, Bool.eqb-true, Nat.mul-le, List.get_or_default, List.length-map}
+use Rattle.std.proofs.lemmas.List.Folds.{list_any_at, Any-from_list_any}
+use Rattle.{std.specs.Prelude.slice_index, std.specs.Prelude.◌==◌, sum_laws.proofs.Sums.count_below_le}
 use Rattle.def_layout.specs.{Gluings.Way, Gluings.south, Gluings.west, Gluings.Gluing, Gluings.east, Gluings.north}
 use Rattle.def_layout.specs.{Lengths.size, Lengths.wide, Lengths.high, Lengths.Lengths, Layouts.Layout}
 use Rattle.def_layout.specs.{Layouts.gluing_of, Layouts.way_number, Layouts.side_at, declared.tmesh.SideArc.SideArc}
 use Rattle.def_remesh.specs.Numberings.{sizes_on, table_at, tables_of, AreRunStarts, AreSideStarts, IsNumbering}
 use Rattle.def_remesh.specs.{NewPoints.lengths_in, declared.tables.Tables.Tables, Rises.IsOnSide}
-use Rattle.sum_laws.proofs.Sums.{count_below_le, count_below_same}
 use Rattle.qm_offsets.specs.Fours.{begins_of, arcs_on}
-use Rattle.qm_offsets.proofs.{Spots.last_is, Spots.term_room, Whole.way_for}
+use Rattle.qm_offsets.proofs.{Spots.last_is, Spots.starts_same, Spots.term_room, Whole.way_for}
 use Rattle.embedding_laws.proofs.Bounds.{laid_of, side_few, vertices_few}
 use Rattle.qm_stitch.specs.{Sizes.long_by, Sizes.product_by, Sizes.AreRows, Sizes.IsFine, Rims.along_lines, Tight.is_on}
 use Rattle.qm_stitch.specs.{Tight.AddsMarks, Tight.IsDoubledIn, Tight.IsTightAt, Tight.IsTightUpto}
 use Rattle.{def_math.specs.Counts.count_below, def_written.specs.Numbers.vertices, written_laws.proofs.Sides.size_some}
-
--- Starts of other sizes that are the same.
-starts_same : {f g : ℕ → ℕ} {n : ℕ} {starts : List ℕ} → ((k : ℕ) → k < n → f k ≡ g k) → AreRunStarts f n starts
-    → AreRunStarts g n starts
-starts_same {f} {g} same are = record {
-  count = are.count;
-  each = λ k low. are.each k low ∙ count_below_same f g k (λ j less. same j (omega arith));
-}
 
 module _ {layout : Layout} {list : List ℕ} (fine : IsFine layout list) where
   abbrev l : Gluing
@@ -102,8 +93,8 @@ built {layout} t fine nodes along sides inside cells =
       few = fine.few;
       nodes = nodes;
       along = rw fine.long at along;
-      inside = starts_same (product_is fine sides 1) (rw many at inside);
-      cells = starts_same (λ p low. product_is fine sides 0 p low ∙ (λ i. no_less (wide (gluing_of layout)
+      inside = starts_same _ _ _ _ (product_is fine sides 1) (rw many at inside);
+      cells = starts_same _ _ _ _ (λ p low. product_is fine sides 0 p low ∙ (λ i. no_less (wide (gluing_of layout)
           (lengths_in t.lengths.items) p) i * no_less (high (gluing_of layout) (lengths_in t.lengths.items) p) i))
           (rw many at cells);
       sides = sides;
@@ -114,17 +105,8 @@ built {layout} t fine nodes along sides inside cells =
 
 -- Marks of arcs, side after side.
 
-any_at : {X : Type 0} (p : X → Bool) (xs : List X) (d : X) → list_any p xs ≡ true
-    → (i : ℕ) × (i < length xs) × (p (get_or xs i d) ≡ true)
-any_at p [] d on = absurd (false≢true on)
-any_at p (x ∷ xs) d on = elim (or_cases (p x) _ on) [
-  | inl here ↦ (0, omega arith, here)
-  | inr later ↦ let r = any_at p xs d later in (suc r.0, omega arith, r.2)
-]
-
--- The use past the last one.
-abbrev no_use : SideArc
-no_use = record { arc = 0; forward = true }
+or_told : {a b c : Bool} {P : Type 0} → c ≡ (a || b) → (b ≡ true) ↔ P → (c ≡ true) ↔ ((a ≡ true) ⊎ P)
+or_told same told = grind arith
 
 -- Marks of the arcs in use on a side.
 pub adds_side : (layout : Layout) (p s : ℕ) (side : List SideArc) (old new : List Bool) → side ≡ arcs_on layout p s
@@ -133,18 +115,14 @@ pub adds_side : (layout : Layout) (p s : ℕ) (side : List SideArc) (old new : L
 adds_side layout p s side old new is told way same arc low =
     let uses = side_at layout p way in
     let has = λ (used : SideArc). used.arc == arc in
-    let side_is : side ≡ side_at layout p way = is ∙ ap (arcs_on layout p) (sym same) in (
-      λ on. elim (or_cases (get_or old arc false) (is_on side arc) (sym (told arc low) ∙ on)) [
-        | inl before ↦ inl before
-        | inr now ↦
-            let r = any_at has uses no_use (rw side_is at now) in
-            inr (r.0, r.1, eqb-true (get_or uses r.0 no_use).arc arc r.2)
-      ],
-      elim [
-        | inl before ↦ told arc low ∙ or_left (get_or old arc false) (is_on side arc) before
-        | inr (at, less, is) ↦ told arc low ∙ or_right (get_or old arc false) (is_on side arc)
-            (rw side_is (list_any_at has uses at no_use less (eq-eqb (get_or uses at no_use).arc arc is)))
-      ],
+    let none : SideArc = record { arc = 0; forward = true } in
+    let side_is : side ≡ side_at layout p way = is ∙ ap (arcs_on layout p) (sym same) in
+    or_told (told arc low) (
+      λ on.
+          let (at, used, less, read, here) = Any-from_list_any has uses (rw side_is at on) in
+          let is = ap (λ (u : SideArc). u.arc) (get_or_default uses at none used less ∙ read) in
+          (at, less, is ∙ eqb-true used.arc arc here),
+      λ (at, less, is). rw side_is (list_any_at has uses at none less (eq-eqb (get_or uses at none).arc arc is)),
     )
 
 -- The side across from the one along which lines run.
@@ -162,21 +140,11 @@ lines_both l x true p arc doubled = (
 )
 
 -- One patch more.
+both_more : {P : Bool → ℕ → Type 0} (n : ℕ)
+    → ((((p : ℕ) × (u : Bool) × (p < n) × P u p) ⊎ P false n) ⊎ P true n)
+    ↔ ((p : ℕ) × (u : Bool) × (p < n + 1) × P u p)
+both_more n = grind arith
+
 pub tight_more : (l : Gluing) (x : Lengths) (p arc : ℕ)
     → ((IsTightUpto l x p arc ⊎ IsTightAt l x false p arc) ⊎ IsTightAt l x true p arc) ↔ IsTightUpto l x (p + 1) arc
-tight_more l x p arc = (
-  elim [
-    | inl (inl is) ↦ (is.0, is.1, omega arith, is.3)
-    | inl (inr is) ↦ (p, false, omega arith, is)
-    | inr is ↦ (p, true, omega arith, is)
-  ],
-  λ is. elim (cases_eq is.0 p) [
-    | inl same ↦ by_way is.1 (rw (← same) is.3)
-    | inr other ↦ inl (inl (is.0, is.1, omega arith, is.3))
-  ],
-)
-  where
-    by_way : (u : Bool) → IsTightAt l x u p arc
-        → (IsTightUpto l x p arc ⊎ IsTightAt l x false p arc) ⊎ IsTightAt l x true p arc
-    by_way false is = inl (inr is)
-    by_way true is = inr is
+tight_more l x p arc = both_more {P = λ u q. IsTightAt l x u q arc} p

@@ -1,54 +1,42 @@
 -- The first remedy of each pair in a list in order is the cheapest, and marks of the arcs of these.
-use Rattle.std.proofs.Common.{◌≡◌, ◌≢◌, ◌⊎◌, ℕ, zero, suc, ◌+◌, ◌-◌, ◌<◌, ◌≤◌, Bool, false, List, length, get_or, refl}
-use Rattle.std.proofs.Common.{sym, ◌∙◌, ap, subst, inl, inr, arith, ◌*◌, ◌/◌, ◌%◌, ◌^◌, [], cond}
-use Rattle.std.proofs.lemmas.Bool.{cases_eq, cases_lt, false≢true, cond-true, cond-false, eq-eqb, ne_eqb}
-use Rattle.std.proofs.{lemmas.Int.ints, lemmas.List.get_or_default, lemmas.List.get_or_read}
+use Rattle.std.proofs.Common.{rules, ◌≡◌, ◌≢◌, ◌⊎◌, ℕ, zero, suc, ◌+◌, ◌-◌, ◌<◌, ◌≤◌, Bool, false, List, length, get_or}
+use Rattle.std.proofs.Common.{refl, sym, ◌∙◌, ap, subst, inl, inr, arith, ◌*◌, ◌/◌, ◌%◌, ◌^◌, []}
+use Rattle.std.proofs.lemmas.Bool.{cases_eq, cases_lt, false≢true, Decides.nat_tests}
+use Rattle.std.proofs.lemmas.{List.get_or_default, List.get_or_read, List.length-map}
 use Rattle.std.proofs.{lemmas.List.Elements.Contains-get_or, lemmas.List.Sorted.Contains-permutation}
 use Rattle.std.proofs.{lemmas.List.Sorted.IsPermutation-sym, Math.Nat.mul_comm}
-use Rattle.std.specs.{List.Sorted.IsPermutation, Prelude.◌≤ℤ◌, Prelude.◌==◌, Prelude.slice_index, List.All}
+use Rattle.std.specs.{List.Sorted.IsPermutation, Prelude.◌≤ℤ◌, Prelude.slice_index, List.All}
 use Rattle.def_layout.specs.{Layouts.Layout, Layouts.gluing_of, Layouts.way_number, Layouts.side_at}
 use Rattle.def_layout.specs.{declared.tmesh.SideArc.SideArc, Gluings.Way, Gluings.east, Gluings.north, Gluings.west}
 use Rattle.def_layout.specs.{Gluings.Gluing, Lengths.Lengths, Lengths.size, Lengths.wide, Lengths.high}
+use Rattle.def_layout.specs.{Layouts.layout_of, Arcs.path, declared.tmesh.TMesh.TMesh, Surfaces.IsSurface}
 use Rattle.qm_stitch.specs.Remedies.{remedy_at, AreInOrder, AreMarksOf, IsCheapestIn, IsFirstUpto}
 use Rattle.qm_stitch.specs.{Tight.AddsMarks, declared.remedy.Remedy.Remedy, Numbered.AreTables, Sizes.long_by}
 use Rattle.qm_stitch.specs.{Sizes.table_in, Sizes.point_on}
-use Rattle.def_math.specs.{Counts.count_below, Runs.run_at}
+use Rattle.{def_cut.specs.Grids.rectangle, def_math.specs.Counts.count_below, def_math.specs.Runs.run_at}
 use Rattle.def_written.specs.Points.{along, inside, arc_point, use_point, side_point, point, IsPoint}
+use Rattle.def_written.specs.Numbers.{vertices}
 use Rattle.def_written.specs.{Numbers.before_arc, Numbers.before_patch, Numbers.vertex_number as point_name}
 use Rattle.def_written.specs.{NewFaces.cells_before, NewFaces.face_count, NewFaces.patch_of, NewFaces.cell_in}
 use Rattle.def_remesh.specs.Numberings.{sizes_on, tables_of, used_at, AreRunStarts, IsNumbering}
 use Rattle.def_remesh.specs.{NewPoints.lengths_in, declared.tables.RunStarts.RunStarts, declared.tables.Tables.Tables}
 use Rattle.written_laws.proofs.{Spacings.run_here, Spacings.run_low, EdgeNumbers.in_rows, EdgeNumbers.number_low}
 use Rattle.written_laws.proofs.{Sides.arc_inner}
-use Rattle.qm_offsets.proofs.{Spots.last_is, Spots.within_run, Whole.arcs_low, Whole.read_size, Whole.read_used}
-use Rattle.qm_offsets.proofs.{Whole.sides_of, Whole.way_for}
+use Rattle.qm_offsets.{specs.Fours.arcs_on, proofs.Spots.last_is, proofs.Spots.within_run, proofs.Whole.arcs_low}
+use Rattle.qm_offsets.{proofs.Whole.read_size, proofs.Whole.read_used, proofs.Whole.sides_of, proofs.Whole.way_for}
 use Rattle.embedding_laws.proofs.Bounds.{laid_of, side_few, vertices_few}
 
 -- Its key is lower, or the same and its price no higher.
 abbrev IsBefore : (a b : Remedy) → Type 0
 IsBefore a b = (a.key < b.key) ⊎ ((a.key ≡ b.key) × (a.price ≤ℤ b.price))
 
-before_too : (a b c : Remedy) → IsBefore a b → IsBefore b c → IsBefore a c
-before_too a b c (inl low) (inl more) = inl (omega (arith, low, more))
-before_too a b c (inl low) (inr more) = inl (omega (arith, low, more.0))
-before_too a b c (inr low) (inl more) = inl (omega (arith, low.0, more))
-before_too a b c (inr low) (inr more) = inr (low.0 ∙ more.0, omega (arith, ints, low.1, more.1))
-
 squeezed : (a b c : Remedy) → IsBefore a b → IsBefore b c → a.key ≡ c.key → b.key ≡ c.key
-squeezed a b c (inl low) (inl more) same = omega arith
-squeezed a b c low (inr more) same = more.0
-squeezed a b c (inr low) more same = sym low.0 ∙ same
+squeezed a b c low more same = grind arith
 
 module _ (rs : List Remedy) (ordered : AreInOrder rs) where
   in_order : (d i j : ℕ) → j ≡ i + d → j < length rs → IsBefore (remedy_at rs i) (remedy_at rs j)
-  in_order zero i j same low =
-      let e : j ≡ i = omega (arith, same) in rw e (inr (refl, omega (arith, ints)))
-  in_order (suc d) i j same low =
-      let back : j - 1 + 1 ≡ j = omega (arith, same) in
-      before_too (remedy_at rs i) (remedy_at rs (j - 1)) (remedy_at rs j)
-      (in_order d i (j - 1) (omega (arith, same)) (omega (arith, low, same)))
-      (subst (λ (m : ℕ). IsBefore (remedy_at rs (j - 1)) (remedy_at rs m)) back
-      (ordered (j - 1) (omega (arith, low, same))))
+  in_order zero i j same low = search rules
+  in_order (suc d) i j same low = search (rules, in_order d i (j - 1) (omega (arith, same)) (omega (arith, low, same)))
 
   -- The first one of its key.
   abbrev IsFirst : (k : ℕ) → Type 0
@@ -115,25 +103,23 @@ marks_of layout xs ys none marks moved ordered long longer blank adds = record {
 
 -- What the tables of a numbering say.
 
--- Which side a grid point lies on.
-module _ (l : Gluing) (x : Lengths) (p i j : ℕ) where
-  pub on_north : j ≢ 0 → j ≡ high l x p → point l x p i j ≡ side_point l x p north (wide l x p - i)
-  on_north j_some top = cond-false (j == 0) _ _ (ne_eqb j 0 j_some) ∙ cond-true (j == high l x p) _ _ (eq-eqb j _ top)
+-- The number of a grid point on a side of a patch that is w wide and h high, and an inner grid point.
+module _ (l : Gluing) (x : Lengths) (p i j : ℕ) {w h : ℕ} (wide_is : w ≡ wide l x p) (high_is : h ≡ high l x p)
+    (above : j ≢ 0) where
+  pub on_north : {v : ℕ} → j ≡ h → v ≡ point_name l x (side_point l x p north (w - i))
+      → v ≡ point_name l x (point l x p i j)
+  on_north top is = grind (arith, nat_tests)
 
-  pub on_west : j ≢ 0 → j ≢ high l x p → i ≡ 0 → point l x p i j ≡ side_point l x p west (high l x p - j)
-  on_west j_some j_low none = cond-false (j == 0) _ _ (ne_eqb j 0 j_some) ∙ cond-false (j == high l x p) _ _
-      (ne_eqb j _ j_low) ∙ cond-true (i == 0) _ _ (eq-eqb i 0 none)
+  pub on_west : {v : ℕ} → j ≢ h → i ≡ 0 → v ≡ point_name l x (side_point l x p west (h - j))
+      → v ≡ point_name l x (point l x p i j)
+  on_west below first is = grind (arith, nat_tests)
 
-  within : j ≢ 0 → j ≢ high l x p → i ≢ 0
-      → point l x p i j ≡ cond (i == wide l x p) (side_point l x p east j) (inside p i j)
-  within j_some j_low i_some = cond-false (j == 0) _ _ (ne_eqb j 0 j_some)
-      ∙ cond-false (j == high l x p) _ _ (ne_eqb j _ j_low) ∙ cond-false (i == 0) _ _ (ne_eqb i 0 i_some)
+  pub on_east : {v : ℕ} → j ≢ h → i ≢ 0 → i ≡ w → v ≡ point_name l x (side_point l x p east j)
+      → v ≡ point_name l x (point l x p i j)
+  on_east below later last is = grind (arith, nat_tests)
 
-  pub on_east : j ≢ 0 → j ≢ high l x p → i ≢ 0 → i ≡ wide l x p → point l x p i j ≡ side_point l x p east j
-  on_east j_some j_low i_some end = within j_some j_low i_some ∙ cond-true (i == wide l x p) _ _ (eq-eqb i _ end)
-
-  pub on_inside : j ≢ 0 → j ≢ high l x p → i ≢ 0 → i ≢ wide l x p → point l x p i j ≡ inside p i j
-  on_inside j_some j_low i_some i_low = within j_some j_low i_some ∙ cond-false (i == wide l x p) _ _ (ne_eqb i _ i_low)
+  on_inside : j ≢ h → i ≢ 0 → i ≢ w → point l x p i j ≡ inside p i j
+  on_inside below later low = grind (arith, nat_tests)
 
 -- What is read of tables that number the layout of a mesh.
 pub tables_are : {layout : Layout} {t : Tables} → IsNumbering layout t → AreTables layout t
@@ -141,19 +127,24 @@ tables_are {layout} {t} is =
     let l = gluing_of layout in
     let x = lengths_in t.lengths.items in
     let laid = laid_of layout is.mesh in
-    record {
-      whole = sides_of layout is.mesh;
-      laid = ∣ laid ∣₁;
-      long = is.long;
-      lengths = is.lengths;
-      few = omega (arith, vertices_few l x laid is.lengths);
-      short = λ p s low. omega (arith, side_few l x laid is.lengths p s low);
-      nodes = is.nodes;
-      along = is.along;
-      inside = is.inside;
-      cells = is.cells;
-      sides = is.sides;
-    }
+    let few : vertices l x ≤ 2 ^ 23 = omega (arith, vertices_few l x laid is.lengths) in
+    let short : (p : ℕ) (s : Way) → p < length layout.patches → size l x p s ≤ 2 ^ 21 =
+    λ p s low. omega (arith, side_few l x laid is.lengths p s low) in
+    let some : ∥ IsSurface l ∥₁ = ∣ laid ∣₁ in
+    assumption (sides_of layout is.mesh, some, few, short)
+
+-- A patch of the tables is one of the layout.
+pub patch_low : (t : TMesh) {patch : ℕ} → patch < length t.patches.items → patch < length (layout_of t).patches
+patch_low t less = omega (arith, length-map t.patches.items rectangle)
+
+-- The arcs in use on a side are arcs of the tables.
+pub uses_low : (t : TMesh) {tables : Tables} → AreTables (layout_of t) tables → {p s n : ℕ} {uses : List SideArc}
+    → p < length t.patches.items → s < 4 → uses ≡ arcs_on (layout_of t) p s → n ≡ length t.arcs.items
+    → All (λ (used : SideArc). used.arc < n) uses
+uses_low t are {p} {s} low side same long =
+    let w = way_for s side in
+    arcs_low (layout_of t) are.whole.paved p w.0 _ _ (patch_low t low) (long ∙ sym (length-map t.arcs.items path))
+    (same ∙ ap (arcs_on (layout_of t) p) (sym w.1))
 
 -- What is read of a table of starts, and its end.
 module _ {sizes : ℕ → ℕ} {runs : ℕ} {starts : List ℕ} (are : AreRunStarts sizes runs starts) where
@@ -264,21 +255,20 @@ module _ {layout : Layout} {t : Tables} (is : AreTables layout t) where
 
   pub face_low : {f patch begin columns : ℕ} → f < face_count l x → IsFaceAt f patch begin columns
       → ((f - begin) % columns < wide l x patch) × ((f - begin) / columns < high l x patch)
-  face_low {f} {patch} {begin} {columns} low at =
-      let cell = cell_is f low in
-      rw (at.patch_is, at.begin_is, at.columns_are) (cell.column, cell.row)
+  face_low {f} {patch} {begin} {columns} low at = search (rules, cell_is)
 
   -- An inner point of a patch.
-  pub inside_here : (p i j : ℕ) {columns begin end : ℕ} → p < length layout.patches → i ≤ wide l x p
-      → j ≤ high l x p → j ≢ 0 → j ≢ high l x p → i ≢ 0 → i ≢ wide l x p → columns ≡ wide l x p
+  pub inside_here : (p i j : ℕ) {columns rows begin end : ℕ} → p < length layout.patches → i ≤ wide l x p
+      → j ≤ high l x p → columns ≡ wide l x p → rows ≡ high l x p → j ≢ 0 → j ≢ rows → i ≢ 0 → i ≢ columns
       → begin ≡ before_patch l x p → end ≡ before_arc x (length layout.arcs)
       → (t.nodes + end + begin + ((j - 1) * (columns - 1) + (i - 1)) ≡ point_name l x (point l x p i j))
       × (t.nodes + end + begin + ((j - 1) * (columns - 1) + (i - 1)) < 2 ^ 23)
-  inside_here p i j {columns} {begin} {end} low i_upto j_upto j_some j_low i_some i_low columns_are begin_is end_is =
-      let product = ap (λ n. (j - 1) * (n - 1)) columns_are in
+  inside_here p i j {columns} {rows} {begin} {end} low i_upto j_upto wide_is high_is above below later less begin_is
+      end_is =
+      let product = ap (λ n. (j - 1) * (n - 1)) wide_is in
       let name : t.nodes + end + begin + ((j - 1) * (columns - 1) + (i - 1)) ≡ point_name l x (inside p i j) =
       omega arith in
       let inner : IsPoint l x (inside p i j) = (low, omega arith, omega arith, omega arith, omega arith) in (
-        name ∙ ap (point_name l x) (sym (on_inside l x p i j j_some j_low i_some i_low)),
+        name ∙ ap (point_name l x) (sym (on_inside l x p i j wide_is high_is above below later less)),
         omega (arith, number_low l x (inside p i j) inner),
       )

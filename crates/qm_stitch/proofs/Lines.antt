@@ -1,6 +1,6 @@
 -- Remedies along arcs and along the sides of patches, by the edges of arcs and of lines.
-use Rattle.std.proofs.Common.{◌≡◌, ◌⊎◌, ◌↔◌, ℕ, zero, suc, ◌-◌, ◌%◌, ◌<◌, not, List, refl, sym, ◌∙◌, ap, subst, inl}
-use Rattle.std.proofs.Common.{inr, arith}
+use Rattle.std.proofs.Common.{rules, ◌≡◌, ◌⊎◌, ◌↔◌, ℕ, ◌-◌, ◌%◌, ◌<◌, not, List, refl, sym, ◌∙◌, ap, subst, inl, inr}
+use Rattle.std.proofs.Common.{arith}
 use Rattle.def_flow.specs.declared.limits.TheConstants.{MAX_FLOOR}
 use Rattle.def_layout.specs.{Gluings.Gluing, Lengths.Lengths, Lengths.size, Layouts.Layout, Layouts.layout_of}
 use Rattle.def_written.specs.Edges.{Edge, on_arc, flat, steep}
@@ -10,8 +10,8 @@ use Rattle.qm_stitch.specs.{Lengthened.gluing_in, Lengthened.lengths_by, Rims.al
 use Rattle.qm_stitch.specs.{Rims.IsLine, Rims.IsRepeat, Tight.IsDoubled, declared.priced.Priced.Priced}
 use Rattle.qm_stitch.specs.{declared.remedy.Remedy.Remedy, declared.remedy.Run.Run, declared.remedy.Run.TheVariants.Arc}
 use Rattle.qm_stitch.specs.{declared.remedy.Run.TheVariants.Side, declared.rim.Line.Line}
-use Rattle.qm_stitch.proofs.TightEdges.{key_tells, line_end, line_is, line_parts, line_some}
-use Rattle.qm_stitch.proofs.RiseLists.{remedy_in}
+use Rattle.qm_stitch.proofs.{RimEdges.line_is, TightEdges.key_tells, TightEdges.line_end, TightEdges.line_parts}
+use Rattle.qm_stitch.proofs.{TightEdges.line_some, RiseLists.remedy_in}
 use Rattle.{std.specs.Prelude.◌==◌, std.specs.Prelude.ℤ, qm_offsets.specs.Fours.arcs_on}
 
 -- A remedy of these parts.
@@ -20,11 +20,7 @@ made key price run = record { key = key; price = price; run = run }
 
 -- The edges of a line lie along the sides of its direction, and no other edges do.
 side_run : (s : ℕ) → s < 4 → (p n k : ℕ) → IsRunOf (line_edge (s % 2 == 1) p n k) (Side p s)
-side_run zero low p n k = inl refl
-side_run (suc zero) low p n k = inl refl
-side_run (suc (suc zero)) low p n k = inr refl
-side_run (suc (suc (suc zero))) low p n k = inr refl
-side_run (suc (suc (suc (suc s)))) low p n k = absurd (omega arith)
+side_run s h1 p n k = search rules
 
 run_line : (e : Edge) (p s : ℕ) → IsRunOf e (Side p s) → (n : ℕ) × (k : ℕ) × (e ≡ line_edge (s % 2 == 1) p n k)
 run_line (on_arc a k) p s is = absurd cc
@@ -34,9 +30,7 @@ run_line (steep q i j) p s (inl is) = let t : s ≡ 1 = cc in let r : q ≡ p = 
 run_line (steep q i j) p s (inr is) = let t : s ≡ 3 = cc in let r : q ≡ p = cc in (i, j, rw (t, r))
 
 run_arc : (e : Edge) (a : ℕ) → IsRunOf e (Arc a) → (k : ℕ) × (e ≡ on_arc a k)
-run_arc (on_arc b k) a is = (k, cc)
-run_arc (flat q i j) a is = absurd (elim is [ inl same ↦ cc | inr same ↦ cc ])
-run_arc (steep q i j) a is = absurd (elim is [ inl same ↦ cc | inr same ↦ cc ])
+run_arc e a h1 = search rules
 
 module _ (priced : Priced) where
   abbrev layout : Layout
@@ -110,19 +104,7 @@ module _ (priced : Priced) where
   side_both p s lines price low lines_is price_is short r = (to, of)
     where
       to : (n : ℕ) × (n < lines) × IsInLine p s price n r → IsAlong priced (Side p s) r
-      to (n, less, (some, by)) = (
-        by.run,
-        (
-          line_edge (s % 2 == 1) p n by.at,
-          record {
-            doubled = by.doubled;
-            key = by.key;
-            run = subst (IsRunOf (line_edge (s % 2 == 1) p n by.at)) (sym by.run) (side_run s low p n by.at);
-            short = subst (IsShortRun layout x) (sym by.run) short;
-            price = by.price ∙ price_is ∙ ap (price_of layout x priced.prices.now) (sym by.run);
-          },
-        ),
-      )
+      to (n, less, (some, by)) = search (rules, side_run)
 
       of : IsAlong priced (Side p s) r → (n : ℕ) × (n < lines) × IsInLine p s price n r
       of (same, (e, by)) =
@@ -189,5 +171,4 @@ module _ (priced : Priced) where
       by_run : IsPricedRemedy priced r → (run : Run) → r.run ≡ run → IsRunIn layout r.run
           → IsAlongArcs priced arcs r ⊎ IsAlongPatches priced patches r
       by_run has (Arc a) same there = let low = subst (IsRunIn layout) same there in inl (a, omega arith, (same, has))
-      by_run has (Side p s) same there =
-          let at = subst (IsRunIn layout) same there in inr (p, omega arith, (s, at.1, (same, has)))
+      by_run has (Side p s) same there = search rules

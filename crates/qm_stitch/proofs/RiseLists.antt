@@ -1,5 +1,5 @@
 -- Rises by marks of the tight arcs are the needed ones.
-use Rattle.std.proofs.Common.{◌≡◌, ◌⊎◌, ◌↔◌, ℕ, zero, suc, ◌+◌, ◌<◌, ◌≤◌, Bool, true, false, List, [], ◌∷◌, ◌++◌}
+use Rattle.std.proofs.Common.{rules, ◌≡◌, ◌⊎◌, ◌↔◌, ℕ, zero, suc, ◌+◌, ◌<◌, ◌≤◌, Bool, true, false, List, [], ◌∷◌, ◌++◌}
 use Rattle.std.proofs.Common.{Option, None, Some, length, get_or, refl, sym, ◌∙◌, ap, subst, inl, inr, arith}
 use Rattle.std.proofs.Common.{length-append}
 use Rattle.std.proofs.{lemmas.Bool.cases_eq, lemmas.Bool.cases_lt, lemmas.Bool.false≢true}
@@ -17,6 +17,7 @@ use Rattle.qm_stitch.specs.{declared.remedy.Run.TheVariants.Arc, declared.remedy
 use Rattle.def_written.specs.Edges.{Edge, on_arc, flat, steep, IsEdge}
 use Rattle.{def_certtext.specs.declared.certs.Rise.Rise, def_flow.specs.declared.limits.TheConstants.MAX_FLOOR}
 use Rattle.{qm_offsets.proofs.Whole.arcs_low, qm_offsets.proofs.Whole.way_for, qm_offsets.specs.Fours.arcs_on}
+use Rattle.qm_stitch.proofs.TightEdges.{doubled_by, tight_by}
 
 -- The rise past the last one.
 abbrev no_rise : Rise
@@ -74,53 +75,46 @@ module _ (some : Bool) (tight : List Bool) (xs : List ℕ) where
 
       by_place : (P : Rise → Type 0) (k : ℕ) → k < length (rises ++ rise ∷ [])
           → (k < length rises → P (rise_at rises k)) → P rise → P (rise_at (rises ++ rise ∷ []) k)
-      by_place P k k_low old new = elim (cases_lt k (length rises)) [
-        | inl less ↦ subst P (sym (at_old k less)) (old less)
-        | inr more ↦ subst P (sym (at_new k (omega (arith, more, k_low, longer)))) new
-      ]
+      by_place P k k_low old new = grind (arith, longer, at_old k, at_new k)
 
--- A short arc is there, or all are long.
-find_short : (xs : List ℕ) (n : ℕ) → ((arc : ℕ) × (arc < n) × (lengths_in xs arc < MAX_FLOOR))
-    ⊎ ((arc : ℕ) → arc < n → MAX_FLOOR ≤ lengths_in xs arc)
-find_short xs zero = inr (λ arc low. absurd (omega arith))
-find_short xs (suc n) = elim (cases_lt _ MAX_FLOOR) [
-  | inl short ↦ inl (n, omega arith, short)
-  | inr high ↦ elim (find_short xs n) [
-    | inl (arc, low, short) ↦ inl (arc, omega arith, short)
-    | inr all ↦ inr (λ arc low. elim (cases_lt arc n) [
-      | inl less ↦ all arc less
-      | inr more ↦ rw (← let e : n ≡ arc = omega (arith, low, more) in e) high
-    ])
-  ]
+-- Where not all arcs are long, one is short.
+find_short : (xs : List ℕ) (n : ℕ) → ¬ ((arc : ℕ) → arc < n → MAX_FLOOR ≤ lengths_in xs arc)
+    → (arc : ℕ) × (arc < n) × (lengths_in xs arc < MAX_FLOOR)
+find_short xs zero not_long = absurd (not_long (λ arc low. absurd (omega arith)))
+find_short xs (suc n) not_long = elim (cases_lt (lengths_in xs n) MAX_FLOOR) [
+  | inl short ↦ (n, omega arith, short)
+  | inr high ↦
+      let r = find_short xs n (λ all. not_long (λ arc low. elim (cases_eq arc n) [
+        | inl same ↦ rw same high
+        | inr other ↦ all arc (omega arith)
+      ])) in
+      (r.0, omega (arith, r.1), r.2)
 ]
 
 module _ (l : Gluing) (xs : List ℕ) (tight : List Bool) (long : length xs ≡ l.arcs) where
-  -- A floor by marks of tight arcs is needed.
-  floor_needed : (some : Bool) (rise : Rise)
+  -- Rises by marks of tight arcs are needed, where they are all short ones if no tight arc is short.
+  floors_needed : {some : Bool} {rises : List Rise} → 0 < length rises → AreOrdered rises
+      → AreFloors some tight xs rises
       → (some ≡ true → (arc : ℕ) → arc < l.arcs → get_or tight arc false ≡ true → IsTightArc l (lengths_in xs) arc)
-      → (some ≡ false → AreTightLong l (lengths_in xs)) → rise.arc < length xs
-      → IsFloorOf some tight xs rise.arc rise.floor → IsNeeded l (lengths_in xs) rise
-  floor_needed true rise sound all low (short, marked, same) = record {
-    there = omega arith;
-    short = omega arith;
-    low = omega arith;
-    reason = inl (sound refl rise.arc (omega arith) marked, same);
+      → (some ≡ false → AreTightLong l (lengths_in xs)) → AreNeeded l (lengths_in xs) rises
+  floors_needed {some} {rises} has ordered floors sound all = record {
+    some = has;
+    ordered = ordered;
+    each = λ k low. by_some some (rise_at rises k) sound all (floors k low).0 (floors k low).1;
   }
-  floor_needed false rise sound all low (short, same) = record {
-    there = omega arith;
-    short = omega arith;
-    low = omega arith;
-    reason = inr (all refl, same);
-  }
+    where
+      by_some : (b : Bool) (rise : Rise)
+          → (b ≡ true → (arc : ℕ) → arc < l.arcs → get_or tight arc false ≡ true → IsTightArc l (lengths_in xs) arc)
+          → (b ≡ false → AreTightLong l (lengths_in xs)) → rise.arc < length xs
+          → IsFloorOf b tight xs rise.arc rise.floor → IsNeeded l (lengths_in xs) rise
+      by_some true rise marks none low (short, marked, same) = search rules
+      by_some false rise marks none low (short, same) = search rules
 
   module _ (tells : (arc : ℕ) → arc < l.arcs → (get_or tight arc false ≡ true) ↔ IsTightArc l (lengths_in xs) arc)
       (some : Bool) (told : (some ≡ true) ↔ ((arc : ℕ) × (arc < length xs) × IsShortTight tight xs arc))
     where
       tight_long : some ≡ false → AreTightLong l (lengths_in xs)
-      tight_long none arc low is = elim (cases_lt (lengths_in xs arc) MAX_FLOOR) [
-        | inl short ↦ absurd (false≢true (sym none ∙ told.1 (arc, omega arith, ((tells arc low).1 is, short))))
-        | inr high ↦ high
-      ]
+      tight_long none arc low is = search rules
 
       -- A needed floor is one by the marks.
       needed_floor : (rise : Rise) → IsNeeded l (lengths_in xs) rise
@@ -131,59 +125,23 @@ module _ (l : Gluing) (xs : List ℕ) (tight : List Bool) (long : length xs ≡ 
               → (IsTightArc l (lengths_in xs) rise.arc × (rise.floor ≡ lengths_in xs rise.arc + 1))
               ⊎ (AreTightLong l (lengths_in xs) × (rise.floor ≡ MAX_FLOOR)) → IsFloorOf b tight xs rise.arc rise.floor
           by_some true on (inl (t, same)) = (omega (arith, is.low), (tells rise.arc is.there).1 t, same)
-          by_some true on (inr (all, same)) =
-              let s = told.0 on in
-              let inner : s.0 < l.arcs = omega (arith, s.1) in
-              absurd (omega (arith, all s.0 inner ((tells s.0 inner).0 s.2.0)))
+          by_some true on (inr (all, same)) = search rules
           by_some false off (inl (t, same)) = absurd (omega (arith, tight_long off rise.arc is.there t, is.low))
           by_some false off (inr (all, same)) = (omega (arith, is.short), same)
 
       pub needed_are : (rises : List Rise) → ((0 < length rises) × AreOrdered rises × AreFloors some tight xs rises)
           ↔ AreNeeded l (lengths_in xs) rises
       needed_are rises = (
-        λ all. record {
-          some = all.0;
-          ordered = all.1;
-          each = λ k low. floor_needed some (rise_at rises k) (λ on arc less. (tells arc less).0) tight_long
-              (all.2 k low).0 (all.2 k low).1;
-        },
+        λ (has, ordered, floors). floors_needed has ordered floors (λ on arc less. (tells arc less).0) tight_long,
         λ are. (are.some, are.ordered, λ k low. needed_floor (rise_at rises k) (are.each k low)),
       )
-
--- Rises of tight arcs are needed, and where no tight arc is short those of all short arcs.
-module _ (l : Gluing) (xs : List ℕ) (chosen : List Bool) (long : length xs ≡ l.arcs) (rises : List Rise) where
-  pub chosen_needed : ((arc : ℕ) → arc < l.arcs → get_or chosen arc false ≡ true → IsTightArc l (lengths_in xs) arc)
-      → AreRisesUpto true chosen xs (length xs) rises → (arc : ℕ) × (arc < length xs) × IsShortTight chosen xs arc
-      → AreNeeded l (lengths_in xs) rises
-  chosen_needed sound are (arc, low, (marked, short)) = record {
-    some = let has = are.each arc _ low (short, marked, refl) in omega arith;
-    ordered = are.ordered;
-    each = λ k k_low. floor_needed l xs chosen long true _ (λ on. sound) (λ off. absurd cc)
-        (are.floors k k_low).0 (are.floors k k_low).1;
-  }
-
-  pub all_needed : AreTightLong l (lengths_in xs) → AreRisesUpto false chosen xs (length xs) rises
-      → ¬ ((arc : ℕ) → arc < length xs → MAX_FLOOR ≤ lengths_in xs arc) → AreNeeded l (lengths_in xs) rises
-  all_needed tight_long are some_short = record {
-    some = elim (find_short xs (length xs)) [
-      | inl (arc, low, short) ↦ let has = are.each arc MAX_FLOOR low (short, refl) in omega (arith, has.1)
-      | inr all ↦ absurd (some_short all)
-    ];
-    ordered = are.ordered;
-    each = λ k k_low. floor_needed l xs chosen long false (rise_at rises k) (λ on. absurd cc) (λ off. tight_long)
-        (are.floors k k_low).0 (are.floors k k_low).1;
-  }
 
 -- Arcs along edges: which arcs are tight by them, which of them are short, and which edges they lie along.
 
 -- An edge runs along the arcs of its runs, and along no others.
 along : (layout : Layout) (e : Edge) (run : Run) (arc : ℕ) → IsRunOf e run → IsArcOf layout run arc
     → RunsAlong (gluing_of layout) e arc
-along layout (on_arc a k) run arc is has = subst (λ (r : Run). IsArcOf layout r arc) is has
-along layout (flat p i j) run arc (inl is) has = inl (subst (λ (r : Run). IsArcOf layout r arc) is has)
-along layout (flat p i j) run arc (inr is) has = inr (subst (λ (r : Run). IsArcOf layout r arc) is has)
-along layout (steep p i j) run arc (inl is) has = inl (subst (λ (r : Run). IsArcOf layout r arc) is has)
-along layout (steep p i j) run arc (inr is) has = inr (subst (λ (r : Run). IsArcOf layout r arc) is has)
+along layout e h1 h2 = search rules
 
 run_along : (layout : Layout) (e : Edge) (arc : ℕ) → RunsAlong (gluing_of layout) e arc
     → (run : Run) × IsRunOf e run × IsArcOf layout run arc
@@ -196,11 +154,7 @@ run_along layout (steep p i j) arc (inr has) = (Side p 3, inr refl, has)
 -- There are these arcs.
 run_in : (layout : Layout) (x : Lengths) (e : Edge) (run : Run) → IsEdge (gluing_of layout) x e → IsRunOf e run
     → IsRunIn layout run
-run_in layout x (on_arc a k) run is same = subst (IsRunIn layout) (sym same) is.0
-run_in layout x (flat p i j) run is (inl same) = subst (IsRunIn layout) (sym same) (is.0, omega arith)
-run_in layout x (flat p i j) run is (inr same) = subst (IsRunIn layout) (sym same) (is.0, omega arith)
-run_in layout x (steep p i j) run is (inl same) = subst (IsRunIn layout) (sym same) (is.0, omega arith)
-run_in layout x (steep p i j) run is (inr same) = subst (IsRunIn layout) (sym same) (is.0, omega arith)
+run_in layout x h1 h2 = search rules
 
 module _ (layout : Layout) (x : Lengths) (prices : List ℤ) where
   pub remedy_in : (r : Remedy) → IsRemedy layout x prices r → IsRunIn layout r.run
@@ -209,15 +163,7 @@ module _ (layout : Layout) (x : Lengths) (prices : List ℤ) where
   -- The arcs of a remedy are tight.
   pub remedy_tight : (r : Remedy) (arc : ℕ) → IsRemedy layout x prices r → IsArcOf layout r.run arc
       → IsTightArc (gluing_of layout) x arc
-  remedy_tight r arc (e, is) has = record {
-    edge = e;
-    u = is.doubled.u;
-    v = is.doubled.v;
-    is = is.doubled.is;
-    ends = is.doubled.ends;
-    doubled = is.doubled.doubled;
-    along = along layout e r.run arc is.run has;
-  }
+  remedy_tight r arc (e, is) has = tight_by arc e is.doubled (along layout e r.run arc is.run has)
 
   -- Where a tight arc is short, there is a remedy.
   pub none_short : ((r : Remedy) → ¬ IsRemedy layout x prices r) → AreTightLong (gluing_of layout) x
@@ -228,7 +174,7 @@ module _ (layout : Layout) (x : Lengths) (prices : List ℤ) where
         absurd (none (record { key = key_of (gluing_of layout) x t.edge; price = price; run = run.0 }) (
           t.edge,
           record {
-            doubled = record { is = t.is; u = t.u; v = t.v; ends = t.ends; doubled = t.doubled };
+            doubled = doubled_by t;
             key = refl;
             run = run.1;
             short = (arc, run.2, short);
@@ -239,15 +185,12 @@ module _ (layout : Layout) (x : Lengths) (prices : List ℤ) where
   ]
 
 -- Short arcs in use are short arcs of a side.
-pub uses_short : (layout : Layout) (x : Lengths) (p s : ℕ) (uses : List SideArc) → uses ≡ arcs_on layout p s
-    → IsSomeShort x uses → IsShortRun layout x (Side p s)
-uses_short layout x p s uses same some =
-    let on = subst (IsSomeShort x) same some in
-    ((used_at (arcs_on layout p s) on.0).arc, (on.0, on.1, refl), on.2)
-
-pub short_uses : (layout : Layout) (x : Lengths) (p s : ℕ) (uses : List SideArc) → uses ≡ arcs_on layout p s
-    → IsShortRun layout x (Side p s) → IsSomeShort x uses
-short_uses layout x p s uses same (arc, (at, low, is), short) = rw same (at, low, rw is short)
+pub uses_tell : (layout : Layout) (x : Lengths) (p s : ℕ) (uses : List SideArc) → uses ≡ arcs_on layout p s
+    → IsSomeShort x uses ↔ IsShortRun layout x (Side p s)
+uses_tell layout x p s uses same = rw same (
+  λ (at, low, short). ((used_at (arcs_on layout p s) at).arc, (at, low, refl), short),
+  λ (arc, (at, low, is), short). (at, low, rw is short),
+)
 
 -- What the arcs of a run are numbers of.
 pub arc_low : (layout : Layout) (run : Run) (arc : ℕ) → HasWholeSides (gluing_of layout) → IsRunIn layout run
@@ -262,9 +205,9 @@ arc_low layout (Side p s) arc paved there has =
 -- The rises of marked arcs of cheapest remedies are needed, and they follow the rule.
 
 module _ {layout : Layout} {xs : List ℕ} (prices : List ℤ) {rs : List Remedy} {marks : List Bool} {rises : List Rise}
-    (paved : HasWholeSides (gluing_of layout)) (long : length xs ≡ length layout.arcs) (found : (r : Remedy) → Contains
-    rs r ↔ IsRemedy layout (lengths_in xs) prices r) (are : AreMarksOf layout rs marks) {some : Bool} (on : some ≡ true
-    → 0 < length rs) (off : some ≡ false → length rs ≡ 0) (risen : AreRisesUpto some marks xs (length xs) rises) where
+    (paved : HasWholeSides (gluing_of layout)) (long : length xs ≡ length layout.arcs)
+    (found : (r : Remedy) → Contains rs r ↔ IsRemedy layout (lengths_in xs) prices r) (are : AreMarksOf layout rs marks)
+    {some : Bool} (told : (some ≡ true) ↔ (0 < length rs)) (risen : AreRisesUpto some marks xs (length xs) rises) where
   abbrev x : Lengths
   x = lengths_in xs
 
@@ -281,29 +224,27 @@ module _ {layout : Layout} {xs : List ℕ} (prices : List ℤ) {rs : List Remedy
   marked arc less mark =
       let c = are.only arc less mark in remedy_tight layout x prices c.0 arc ((found c.0).0 c.1.has) c.2
 
-  some_short : 0 < length rs → (arc : ℕ) × (arc < length xs) × IsShortTight marks xs arc
-  some_short has =
-      let c = are.each _ (Contains-get_or rs 0 (record { key = 0; price = pos 0; run = Arc 0 }) has) in
+  -- The rises by marks are some: a remedy has a short arc, and where there is none not all arcs are long.
+  some_risen : ¬ ((arc : ℕ) → arc < length xs → MAX_FLOOR ≤ x arc) → (b : Bool) → some ≡ b → 0 < length rises
+  some_risen not_long true is =
+      let c = are.each _ (Contains-get_or rs 0 (record { key = 0; price = pos 0; run = Arc 0 }) (told.0 is)) in
       let remedy = (found c.0).0 c.1.has in
-      let short = remedy.1.short in
-      let less = low c.0 short.0 remedy short.1 in
-      (short.0, omega arith, (c.3 short.0 less short.1, short.2))
+      let (arc, of, short) = remedy.1.short in
+      let less = low c.0 arc remedy of in
+      let has = (rw is at risen).each arc (x arc + 1) (omega arith) (short, c.3 arc less of, refl) in
+      omega (arith, has.1)
+  some_risen not_long false is =
+      let (arc, less, short) = find_short xs (length xs) not_long in
+      let has = (rw is at risen).each arc MAX_FLOOR less (short, refl) in
+      omega (arith, has.1)
 
   pub choice_needed : ¬ ((arc : ℕ) → arc < length xs → MAX_FLOOR ≤ x arc) → AreNeeded (gluing_of layout) x rises
-  choice_needed not_long = by_some some refl
-    where
-      by_some : (b : Bool) → some ≡ b → AreNeeded (gluing_of layout) x rises
-      by_some true is =
-          chosen_needed (gluing_of layout) xs marks long rises marked (rw is at risen) (some_short (on is))
-      by_some false is = all_needed (gluing_of layout) xs marks long rises (none_short layout x prices
-          (λ r remedy. let has = (found r).1 remedy in omega (arith, off is))) (rw is at risen) not_long
+  choice_needed not_long = floors_needed (gluing_of layout) xs marks long (some_risen not_long some refl) risen.ordered
+      risen.floors (λ on. marked) (λ (off : some ≡ false). none_short layout x prices (λ r remedy.
+      let has = (found r).1 remedy in false≢true (sym off ∙ told.1 (omega arith))))
 
   by_marks : (r : Remedy) → IsRemedy layout x prices r → AreRisesUpto true marks xs (length xs) rises
-  by_marks r remedy = by_some some refl
-    where
-      by_some : (b : Bool) → some ≡ b → AreRisesUpto true marks xs (length xs) rises
-      by_some true is = rw is at risen
-      by_some false is = let has = (found r).1 remedy in absurd (omega arith)
+  by_marks r remedy = let has = (found r).1 remedy in rw (told.1 (omega arith)) at risen
 
   pub choice_follows : FollowCheapest layout x prices rises
   choice_follows = record {

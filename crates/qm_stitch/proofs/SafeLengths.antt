@@ -1,9 +1,8 @@
 -- Safe lengths double no edge, and lengths that double none keep the shape.
-use Rattle.std.proofs.Common.{◌≡◌, ℕ, ◌*◌, ◌/◌, ◌<◌, Bool, List, length, sym, ◌∙◌, ap, subst, inl, inr, arith}
+use Rattle.std.proofs.Common.{rules, ◌≡◌, ℕ, ◌*◌, ◌/◌, ◌<◌, Bool, List, length, sym, ◌∙◌, ap, subst, inl, inr, arith}
 use Rattle.std.proofs.{lemmas.Bool.cases_lt, lemmas.List.get_or_past, lemmas.Nat.div-mul-add}
 use Rattle.std.specs.Prelude.{◌↔◌, IsTrue}
-use Rattle.def_layout.specs.{Arcs.long_at, Arcs.Path, Lengths.Lengths, Lengths.AreLengths, Layouts.Layout}
-use Rattle.def_layout.specs.{Layouts.gluing_of}
+use Rattle.def_layout.specs.{Arcs.long_at, Lengths.Lengths, Lengths.AreLengths, Layouts.Layout, Layouts.gluing_of}
 use Rattle.def_remesh.specs.{NewPoints.lengths_in, NewPoints.multiple_of, Stitched.AreMultiples, Stitched.AreSafe}
 use Rattle.def_remesh.specs.{Stitched.KeepsShapes}
 use Rattle.embedding_laws.proofs.{Bounds.laid_of, Bounds.lies, OneLayout.embedding_law}
@@ -15,14 +14,7 @@ module _ (layout : Layout) (list : List ℕ) (long : length list ≡ length layo
   same_lengths : (by : ℕ) → ((arc : ℕ) → arc < length layout.arcs → lengths_in list arc
       ≡ multiple_of by (long_at layout.arcs) arc)
       → (arc : ℕ) → multiple_of by (long_at layout.arcs) arc ≡ lengths_in list arc
-  same_lengths by same arc = elim (cases_lt arc (length layout.arcs)) [
-    | inl low ↦ sym (same arc low)
-    | inr past ↦
-        let none : long_at layout.arcs arc ≡ 0 =
-        ap (λ (path : Path). length path.darts) (get_or_past layout.arcs arc _ past) in
-        let zero : by * long_at layout.arcs arc ≡ by * 0 = ap (λ n. by * n) none in
-        omega (arith, get_or_past list arc 0 (omega (arith, past, long)))
-  ]
+  same_lengths by same arc = search (rules, get_or_past)
 
   pub safe_undoubled : IsSomeLayout layout → AreLengths (gluing_of layout) (lengths_in list)
       → AreSafe layout (lengths_in list) → IsUndoubled (gluing_of layout) (lengths_in list)

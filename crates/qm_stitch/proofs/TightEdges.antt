@@ -1,9 +1,8 @@
 -- Which edges are doubled: the keys tell, and none between two inner points of a patch is.
-use Rattle.std.proofs.Common.{◌≡◌, ◌⊎◌, ◌↔◌, ℕ, ◌+◌, ◌-◌, ◌/◌, ◌%◌, ◌^◌, ◌<◌, Bool, true, false, not, List, length}
-use Rattle.std.proofs.Common.{get_or, refl, sym, ◌∙◌, subst, inl, inr, arith}
+use Rattle.std.proofs.Common.{rules, ◌≡◌, ◌⊎◌, ◌↔◌, ℕ, ◌+◌, ◌-◌, ◌/◌, ◌%◌, ◌^◌, ◌<◌, Bool, true, false, not, List}
+use Rattle.std.proofs.Common.{length, get_or, refl, sym, ◌∙◌, subst, inl, inr, arith}
 use Rattle.std.proofs.{lemmas.Bool.cases_eq, lemmas.Bool.cases_lt, lemmas.List.get_or_default, lemmas.List.length-map}
-use mathlib.Core.HLevel.{⊥_prop}
-use mathlib.Core.Logic.{∥∥₁_elim}
+use mathlib.Core.{HLevel.⊥_prop, Logic.∥∥₁_elim}
 use Rattle.def_layout.specs.{Arcs.path, Gluings.Gluing, Lengths.Lengths, Lengths.size, Layouts.layout_of}
 use Rattle.def_written.specs.Edges.{Edge, on_arc, flat, steep, IsEdge, HasEnds}
 use Rattle.qm_stitch.specs.Rims.{along_lines, key_of, keys_of, line_edge, rim_edges, IsLine, IsRepeat}
@@ -11,15 +10,10 @@ use Rattle.qm_stitch.specs.Tight.{AddsMarks, IsDoubled, IsDoubledOn, IsLineDoubl
 use Rattle.qm_stitch.specs.{Lengthened.gluing_in, Lengthened.lengths_by, Numbered.AreTables, declared.keyed.Keyed.Keyed}
 use Rattle.qm_stitch.specs.{declared.numbered.Numbered.Numbered, declared.rim.Line.Line}
 use Rattle.qm_stitch.proofs.DoubledPairs.{deep_alone, deep_apart, doubled_repeats, ends_key, key_ends, repeat_doubled}
-use Rattle.qm_stitch.proofs.{Repeats.repeat_moved, RimEdges.IsDeep}
+use Rattle.qm_stitch.proofs.{DoubledPairs.told_both, Repeats.repeat_moved, RimEdges.line_is, RimEdges.IsDeep}
 use Rattle.{def_remesh.specs.Rises.IsTightArc, def_remesh.specs.Rises.RunsAlong, written_laws.proofs.Sides.size_some}
 
--- An edge of a line is one of the layout exactly where its numbers are.
-pub line_is : (l : Gluing) (x : Lengths) (u : Bool) (p n k : ℕ) → p < l.patches → 0 < n
-    → n < size l x p (along_lines (not u)) → k < size l x p (along_lines u) → IsEdge l x (line_edge u p n k)
-line_is l x false p n k low some up less = (low, less, some, up)
-line_is l x true p n k low some up less = (low, some, up, less)
-
+-- The numbers of an edge of a line.
 pub line_parts : (l : Gluing) (x : Lengths) (u : Bool) (p n k : ℕ) → IsEdge l x (line_edge u p n k)
     → (0 < n) × (n < size l x p (along_lines (not u))) × (k < size l x p (along_lines u))
 line_parts l x false p n k is = (is.2, is.3, is.1)
@@ -30,28 +24,25 @@ line_deep : (l : Gluing) (x : Lengths) (u : Bool) (p n k : ℕ) → 0 < k → k 
 line_deep l x false p n k some less = (some, less)
 line_deep l x true p n k some less = (some, less)
 
--- An arc along a doubled edge is tight.
-tight_by : (l : Gluing) (x : Lengths) (arc : ℕ) (e : Edge) → IsDoubled l x e → RunsAlong l e arc → IsTightArc l x arc
-tight_by l x arc e is along = record {
-  edge = e;
-  u = is.u;
-  v = is.v;
-  is = is.is;
-  ends = is.ends;
-  doubled = is.doubled;
-  along = along;
-}
-
--- So an arc is where an edge of it is doubled, or one in a line beside it.
-tight_of : (l : Gluing) (x : Lengths) (arc : ℕ) → IsDoubledOn l x arc ⊎ IsTightUpto l x l.patches arc
+-- An arc along a doubled edge is tight, and a tight arc lies along one.
+pub tight_by : {l : Gluing} {x : Lengths} (arc : ℕ) (e : Edge) → IsDoubled l x e → RunsAlong l e arc
     → IsTightArc l x arc
-tight_of l x arc (inl (k, is)) = tight_by l x arc _ is refl
-tight_of l x arc (inr (p, false, low, ((n, (k, is)), beside))) = tight_by l x arc _ is beside
-tight_of l x arc (inr (p, true, low, ((n, (k, is)), beside))) = tight_by l x arc _ is beside
+tight_by arc e is along = search rules
 
-of_tight : (l : Gluing) (x : Lengths) (arc : ℕ) → IsTightArc l x arc
-    → IsDoubledOn l x arc ⊎ IsTightUpto l x l.patches arc
-of_tight l x arc t = by_edge t.edge (record { is = t.is; u = t.u; v = t.v; ends = t.ends; doubled = t.doubled }) t.along
+pub doubled_by : {l : Gluing} {x : Lengths} {arc : ℕ} (t : IsTightArc l x arc) → IsDoubled l x t.edge
+doubled_by t = record { is = t.is; u = t.u; v = t.v; ends = t.ends; doubled = t.doubled }
+
+-- An arc is tight where an edge of it is doubled, or one in a line beside it.
+tight_is : (l : Gluing) (x : Lengths) (arc : ℕ) → (IsDoubledOn l x arc ⊎ IsTightUpto l x l.patches arc)
+    ↔ IsTightArc l x arc
+tight_is l x arc = (
+  elim [
+    | inl (k, is) ↦ tight_by arc _ is refl
+    | inr (p, false, low, ((n, (k, is)), beside)) ↦ tight_by arc _ is beside
+    | inr (p, true, low, ((n, (k, is)), beside)) ↦ tight_by arc _ is beside
+  ],
+  λ t. by_edge t.edge (doubled_by t) t.along,
+)
   where
     by_edge : (e : Edge) → IsDoubled l x e → RunsAlong l e arc → IsDoubledOn l x arc ⊎ IsTightUpto l x l.patches arc
     by_edge (on_arc a k) is along = inl (k, rw (← along) is)
@@ -64,10 +55,7 @@ pub tight_told : (l : Gluing) (x : Lengths) (n : ℕ) (on old new : List Bool) �
     → AddsMarks old new (IsTightUpto l x n) → (arc : ℕ) → arc < l.arcs
     → (get_or new arc false ≡ true) ↔ IsTightArc l x arc
 tight_told l x n on old new all same long each adds arc low =
-    let more = (rw (same, all) at adds) arc (omega arith) in (
-      λ marked. tight_of l x arc (elim (more.0 marked) [ inl on ↦ inl ((each arc low).0 on) | inr is ↦ inr is ]),
-      λ is. more.1 (elim (of_tight l x arc is) [ inl by ↦ inl ((each arc low).1 by) | inr by ↦ inr by ]),
-    )
+    told_both (each arc low) ((rw (same, all) at adds) arc (omega arith)) (tight_is l x arc)
 
 -- The length of an arc, as a loop reads it.
 pub end_is : (numbered : Numbered) (arc end : ℕ) → arc < length numbered.t.now.arcs.items
@@ -115,13 +103,11 @@ module _ (keyed : Keyed) where
           is = is;
           u = key / 2 ^ 32;
           v = key % 2 ^ 32;
-          ends = (key_ends l x are.whole.paved are.laid are.lengths are.few e key is refl).1;
-          doubled = repeat_doubled l x are.whole.paved are.laid are.lengths are.few key
-              (repeat_moved keyed.keys.now rim key (λ f. sym (keyed.rim.moved f)) repeats);
+          ends = (key_ends are e key is refl).1;
+          doubled = repeat_doubled are key (repeat_moved keyed.keys.now rim key (λ f. sym (keyed.rim.moved f)) repeats);
         },
         λ d. repeat_moved rim keyed.keys.now key keyed.rim.moved (subst (IsRepeat rim)
-            (sym (ends_key l x are.whole.paved are.laid are.lengths are.few e d.u d.v is d.doubled.0 d.ends).0)
-            (doubled_repeats l x are.whole.paved are.laid are.lengths are.few d.u d.v d.doubled).0),
+            (sym (ends_key are e d.u d.v is d.doubled.0 d.ends).0) (doubled_repeats are d.u d.v d.doubled).0),
       )
 
   module _ {line : Line} (inside : IsLine l x line) where

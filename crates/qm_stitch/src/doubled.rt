@@ -16,7 +16,6 @@ use std::alloc::Global;
 
 /// Refuses lengths that double an edge, with the least pair of vertices where one is. n log n in the edges that have an
 /// end on a side of a patch.
-#[tactic(auto, using(crate::proofs::DoubledPairs::first_doubled, crate::proofs::Grids::tables_are))]
 pub(crate) fn check_edges(alloc: Global, tables: &Tables, t: &TMesh) -> Result<(), StitchFail>
     requires { IsNumbering (layout_of t.now) tables.now }
     ensures undoubled { OnOk result (IsUndoubled (gluing_of (layout_of t.now)) (lengths_in tables.now.lengths.items)) }

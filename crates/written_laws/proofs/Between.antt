@@ -1,8 +1,8 @@
 -- New points lie between the least and the greatest of the old coordinates.
-use Rattle.std.proofs.Common.{◌≡◌, ℕ, zero, suc, ◌+◌, ◌-◌, ◌*◌, ◌/◌, ◌%◌, ◌^◌, ◌<◌, ◌≤◌, ℤ, pos, negsuc, ◌+ℤ◌, ◌-ℤ◌}
-use Rattle.std.proofs.Common.{◌*ℤ◌, Bool, not, sym, ◌∙◌, ap, inl, inr, arith, ◌≢◌, refl}
-use Rattle.std.proofs.{Math.Nat.mod-lt, Math.Nat.div-add-mod, Math.Nat.div-lt_iff_lt-mul, lemmas.Bool.cases_eq}
-use Rattle.std.proofs.{lemmas.Bool.cases_lt, lemmas.Int.ints, lemmas.Int.by_lt_z, lemmas.Nat.mul-le}
+use Rattle.std.proofs.Common.{rules, ◌≡◌, ℕ, zero, suc, ◌+◌, ◌-◌, ◌*◌, ◌/◌, ◌%◌, ◌^◌, ◌<◌, ◌≤◌, ℤ, pos, negsuc, ◌+ℤ◌}
+use Rattle.std.proofs.Common.{◌-ℤ◌, ◌*ℤ◌, Bool, not, sym, ◌∙◌, ap, inl, inr, arith, ◌≢◌, refl}
+use Rattle.std.proofs.{Math.Nat.mod-lt, Math.Nat.div-add-mod, lemmas.Bool.cases_eq, lemmas.Bool.cases_lt}
+use Rattle.std.proofs.{lemmas.Int.ints, lemmas.Int.by_lt_z, lemmas.Nat.mul-le}
 use Rattle.std.specs.{Prelude.◌≤ℤ◌, Prelude.◌<ℤ◌, Int.int_div_euclid}
 use Rattle.sum_laws.proofs.Sums.{times_sum}
 use Rattle.def_layout.specs.Lengths.{Lengths, reach, size, wide, high, AreLengths}
@@ -24,8 +24,7 @@ times_le (suc k) a b le = omega (arith, ints, times_le k a b le)
 
 sum_times : (k m : ℕ) (a : ℤ) → pos (k + m) *ℤ a ≡ (pos k *ℤ a) +ℤ (pos m *ℤ a)
 sum_times zero m a = let e : zero + m ≡ m = omega arith in omega (arith, ints, ap (λ n. pos n *ℤ a) e)
-sum_times (suc k) m a =
-    let e : suc k + m ≡ suc (k + m) = omega arith in omega (arith, ints, ap (λ n. pos n *ℤ a) e, sum_times k m a)
+sum_times (suc k) m a = search (rules, ints)
 
 -- What a quotient leaves.
 quotient_rest : (a : ℤ) (b : ℕ) → 0 < b → (r : ℕ) × (r < b) × (a ≡ (pos b *ℤ int_div_euclid a (pos b)) +ℤ pos r)
@@ -102,9 +101,7 @@ blend_within s t a b c d least greatest s_le t_le a_low b_low c_low d_low a_high
 
 -- A quotient of naturals is at most a number whose product is not less.
 pub div_most : (n k d : ℕ) → 0 < d → n ≤ k * d → n / d ≤ k
-div_most n k d some le =
-    let less : n < (k + 1) * d = omega arith in
-    let below : n / d < k + 1 = (div-lt_iff_lt-mul {k = d} {x = n} {y = k + 1} some).1 less in omega arith
+div_most n k d some le = search rules
 
 -- An old column or row, and what is left of a parameter in it.
 pub rest_most : (n u : ℕ) → 0 < n → u ≤ ONE * n → rest_at n u ≤ ONE
@@ -186,10 +183,8 @@ between_law l old new spacing at least greatest laid o_len n_len spaced =
 module _ (l : Gluing) (x : Lengths) where
   pub simple_from : IsUndoubled l x → IsSimple l x
   simple_from undoubled = record {
-    same = λ e f is_e is_f s t. one e f is_e is_f
-        (inl (ap (vertex_number l x) (sym s), ap (vertex_number l x) (sym t)));
-    crossed = λ e f is_e is_f s t. one e f is_e is_f
-        (inr (ap (vertex_number l x) (sym t), ap (vertex_number l x) (sym s)));
+    same = λ e f is_e is_f s t. one e f is_e is_f (inl (cc, cc));
+    crossed = λ e f is_e is_f s t. one e f is_e is_f (inr (cc, cc));
     no_loop = λ e is s. undoubled (vertex_number l x (edge_start l x e)) (vertex_number l x (edge_start l x e))
         (omega arith, inl (refl, (e, is, inl (refl, ap (vertex_number l x) (sym s)))));
   }

@@ -1,15 +1,13 @@
 -- Border darts by the slots whose arcs they lie on, and the darts at a place of an arc.
-use Rattle.std.proofs.Common.{◌≡◌, ◌≢◌, ◌⊎◌, ℕ, zero, suc, ◌+◌, ◌-◌, ◌<◌, ◌≤◌, Bool, true, false, not, cond, refl, sym}
-use Rattle.std.proofs.Common.{◌∙◌, ap, subst, inl, inr, arith}
-use Rattle.std.proofs.lemmas.Bool.{cond_both}
-use Rattle.std.specs.Prelude.{◌==◌}
-use Rattle.def_layout.specs.Gluings.{Way, side_before, Gluing, Slot, IsSlot, AreReverse, use_of, slot_before}
-use Rattle.def_layout.specs.Gluings.{start_node, south, east, north, west}
+use Rattle.std.proofs.Common.{rules, ◌≡◌, ◌≢◌, ◌⊎◌, ℕ, ◌+◌, ◌-◌, ◌<◌, ◌≤◌, Bool, true, false, cond, refl, sym, ◌∙◌, ap}
+use Rattle.std.proofs.Common.{inl, inr, arith}
+use Rattle.def_layout.specs.Gluings.{Way, side_before, Gluing, Slot, IsSlot, AreReverse, use_of, slot_before, south}
+use Rattle.def_layout.specs.Gluings.{east, north, west}
 use Rattle.def_layout.specs.Lengths.{Lengths, reach, size, AreLengths, wide, high}
 use Rattle.def_layout.specs.{Cells.CellDart, Cells.IsDart, Cells.next, Cells.dart_along, Cells.slot_dart}
 use Rattle.def_layout.specs.{declared.tmesh.SideArc.SideArc, Surfaces.HasWholeSides, Surfaces.IsSurface}
-use Rattle.def_written.specs.Points.{node, along, inside, IsPoint, arc_point, use_point, use_over, offset_at}
-use Rattle.def_written.specs.Points.{side_point, Point, point}
+use Rattle.def_written.specs.Points.{inside, IsPoint, arc_point, use_point, use_over, offset_at, side_point, Point}
+use Rattle.def_written.specs.Points.{point}
 use Rattle.def_written.specs.Edges.{Edge, on_arc, flat, steep, IsEdge, edge_start, edge_end}
 use Rattle.def_written.specs.NewFaces.{dart_start, dart_end}
 use Rattle.written_laws.proofs.Sides.{slot, use_sort, place_on, side_in, side_upto, reach_low}
@@ -30,28 +28,17 @@ module _ (l : Gluing) (x : Lengths) where
   -- The points of an arc that is used the other way round.
   pub use_back : (u v : SideArc) → AreReverse u v → (k : ℕ) → k ≤ x u.arc
       → use_point l x v k ≡ use_point l x u (x u.arc - k)
-  use_back u v rev k le = (λ t. use_point l x (record { arc = rev.arc t; forward = rev.turned t }) k)
-      ∙ (elim u.forward as (λ b. use_point l x (record { arc = u.arc; forward = not b }) k
-      ≡ use_point l x (record { arc = u.arc; forward = b }) (x u.arc - k)) [
-        | true ↦ refl
-        | false ↦ let e : k ≡ x u.arc - (x u.arc - k) = omega arith in ap (arc_point l x u.arc) e
-      ])
+  use_back u v rev k le = search rules
 
   -- A point of an arc does not lie inside a patch, and along an arc it tells its place.
   pub arc_not_inside : (a k p i j : ℕ) → arc_point l x a k ≢ inside p i j
-  arc_not_inside a k p i j = cond_both (k == 0) (node (l.first a)) _ (λ t. t ≢ inside p i j) (λ b e. cc)
-      (λ b. cond_both (k == x a) (node (l.last a)) (along a k) (λ t. t ≢ inside p i j) (λ c e. cc) (λ c e. cc))
+  arc_not_inside a k p i j = search rules
 
   pub use_not_inside : (u : SideArc) (o p i j : ℕ) → use_point l x u o ≢ inside p i j
   use_not_inside u o p i j e = arc_not_inside u.arc (cond u.forward o (x u.arc - o)) p i j e
 
   pub side_not_inside : (q : ℕ) (s : Way) (t p i j : ℕ) → side_point l x q s t ≢ inside p i j
   side_not_inside q s t p i j e = use_not_inside (l.use_at q s (use_over l x q s t)) (offset_at l x q s t) p i j e
-
-  pub arc_sort : (a k b m : ℕ) → arc_point l x a k ≡ along b m → (a ≡ b) × (k ≡ m)
-  arc_sort a k b m = cond_both (k == 0) (node (l.first a)) _ (λ t. t ≡ along b m → (a ≡ b) × (k ≡ m))
-      (λ c e. absurd cc) (λ c. cond_both (k == x a) (node (l.last a)) (along a k)
-      (λ t. t ≡ along b m → (a ≡ b) × (k ≡ m)) (λ d e. absurd cc) (λ d e. (cc, cc)))
 
   -- A dart on the border of a patch, o after the beginning of a slot's arc.
   pub record IsOnBorder (d : CellDart) (w : Slot) (o : ℕ) : Type 0 where
@@ -76,13 +63,7 @@ module _ (l : Gluing) (x : Lengths) where
 
     -- The slot before another one.
     pub before_is : (w : Slot) → IsSlot l w → IsSlot l (slot_before l w.patch w.side w.at)
-    before_is w is = (elim w.at as (λ m. m < l.many w.patch w.side → IsSlot l (slot_before l w.patch w.side m)) [
-      | zero ↦ λ low. record {
-        patch_low = is.patch_low;
-        low = omega (arith, paved.sides_full w.patch (side_before w.side) is.patch_low);
-      }
-      | suc m ↦ λ low. record { patch_low = is.patch_low; low = omega arith }
-    ]) is.low
+    before_is w is = search rules
 
     -- Each dart lies inside its patch or on an arc,
     pub sees : {d : CellDart} → IsDart l x d → IsWithin l x d ⊎ ((w : Slot) × (o : ℕ) × IsOnBorder d w o)
@@ -100,7 +81,7 @@ module _ (l : Gluing) (x : Lengths) where
         ⊎ ((w : Slot) × (o : ℕ) × (b : Bool) × IsSpot d w o b)
     sort_spot d is = elim (sees is) [
       | inr (w, o, b) ↦
-          inr (w, o, false, record { is_slot = b.is_slot; low = b.low; dart = b.dart; behind = λ e. absurd cc })
+          inr (w, o, false, search rules)
       | inl i ↦ elim (on_rim paved len d.patch d.i d.j (side_before d.way) (prev_is l x d is)) [
         | inl before ↦ inl (inner_at paved len d.patch d.i d.j d.way i before)
         | inr (s, t, less, e) ↦
@@ -118,21 +99,11 @@ module _ (l : Gluing) (x : Lengths) where
 
   module _ (laid : IsSurface l) (len : AreLengths l x) where
     use_is_point : (w : Slot) (o : ℕ) → IsSlot l w → o < x (use_of l w).arc → IsPoint l x (use_point l x (use_of l w) o)
-    use_is_point w o is less =
-        let low = laid.paved.arc_low w is in
-        elim (use_sort l x (use_of l w) o less) [
-          | inl (z, e) ↦ subst (IsPoint l x) (sym e)
-              (elim (use_of l w).forward as (λ f. start_node l (record { arc = (use_of l w).arc; forward = f }) <
-              l.nodes) [ true ↦ laid.paved.first_low _ low | false ↦ laid.paved.last_low _ low ])
-          | inr (some, e) ↦ subst (IsPoint l x) (sym e) (elim (use_of l w).forward as
-              (λ f. IsPoint l x (along (use_of l w).arc (cond f o (x (use_of l w).arc - o))))
-              [ true ↦ (low, some, less) | false ↦ (low, omega arith, omega arith) ])
-        ]
+    use_is_point w o is less = search (rules, use_sort)
 
     pub at_from : (w : Slot) (o : ℕ) → IsSlot l w → o < x (use_of l w).arc
         → dart_start l x (slot_dart l x w o) ≡ use_point l x (use_of l w) o
-    at_from w o is less = rim_from l x laid len w.patch w.side (place_at l x w o) is.patch_low
-        (at_low laid.paved len o is less) ∙ side_in l x o is less
+    at_from w o is less = search (rules, rim_from, at_low, side_in)
 
     pub at_to : (w : Slot) (o : ℕ) → IsSlot l w → o < x (use_of l w).arc
         → dart_end l x (slot_dart l x w o) ≡ use_point l x (use_of l w) (o + 1)
@@ -167,8 +138,8 @@ module _ (l : Gluing) (x : Lengths) where
     -- Darts leave points.
     pub from_is : (d : CellDart) → IsDart l x d → IsPoint l x (dart_start l x d)
     from_is d is = elim (sort_spot laid.paved len d is) [
-      | inl i ↦ subst (IsPoint l x) (sym (inner_from d i)) (is.patch_low, i.a_some, i.a_low, i.b_some, i.b_low)
-      | inr (w, o, b, s) ↦ subst (IsPoint l x) (sym (spot_from s)) (use_is_point w o s.is_slot s.low)
+      | inl i ↦ rw (inner_from d i) (search rules)
+      | inr (w, o, b, s) ↦ rw (spot_from s) (use_is_point w o s.is_slot s.low)
     ]
 
 -- The edges at an inner point of a patch, by the directions in which they leave it.
@@ -204,11 +175,7 @@ tip_row j south = j - 1
 -- Directions that lead to one place are one.
 pub one_way : (i j : ℕ) (w v : Way) → 0 < i → 0 < j → tip_column i w ≡ tip_column i v → tip_row j w ≡ tip_row j v
     → w ≡ v
-one_way i j east east i_some j_some c r = refl
-one_way i j north north i_some j_some c r = refl
-one_way i j west west i_some j_some c r = refl
-one_way i j south south i_some j_some c r = refl
-one_way i j _ _ i_some j_some c r = absurd (omega arith)
+one_way i j w v h1 h2 h3 h4 = search rules
 
 pub no_tip_at_hub : {i j : ℕ} (w : Way) → 0 < i → 0 < j → tip_column i w ≡ i → tip_row j w ≡ j → ⊥
 no_tip_at_hub east i_some j_some c r = omega arith
@@ -248,10 +215,8 @@ module _ (l : Gluing) (x : Lengths) where
     tip_low p i j _ n = (omega (arith, n.1.a_low), omega (arith, n.1.b_low))
 
     pub spoke_joins : (p i j : ℕ) (w : Way) → Inner p i j → Joins (spoke p i j w) (inside p i j) (tip p i j w)
-    spoke_joins p i j west n =
-        let e : i - 1 + 1 ≡ i = omega (arith, n.1.a_some) in inr (refl, cc (e, hub p i j n))
-    spoke_joins p i j south n =
-        let e : j - 1 + 1 ≡ j = omega (arith, n.1.b_some) in inr (refl, cc (e, hub p i j n))
+    spoke_joins p i j west n = search rules
+    spoke_joins p i j south n = search rules
     spoke_joins p i j _ n = inl (hub p i j n, refl)
 
     -- An edge with an end inside a patch is a spoke from there.
@@ -260,32 +225,22 @@ module _ (l : Gluing) (x : Lengths) where
     hub_edge (on_arc a k) p i j t is (inl s) = absurd (arc_not_inside l x a k p i j s.0)
     hub_edge (on_arc a k) p i j t is (inr s) = absurd (arc_not_inside l x a (k + 1) p i j s.1)
     hub_edge (flat q k m) p i j t is (inl s) =
-        let e = point_sort q k m p i j is.0 (omega (arith, is.1)) (omega (arith, is.3)) s.0 in
-        (east, (λ r. flat (e.0 r) (e.1 r) (e.2 r)), sym s.1 ∙ (λ r. point l x (e.0 r) (e.1 r + 1) (e.2 r)))
+        let e = point_sort q k m p i j is.0 (omega (arith, is.1)) (omega (arith, is.3)) s.0 in (east, cc, cc)
     hub_edge (flat q k m) p i j t is (inr s) =
         let e = point_sort q (k + 1) m p i j is.0 (omega (arith, is.1)) (omega (arith, is.3)) s.1 in
-        let c : k ≡ i - 1 = omega (arith, e.1) in
-        (west, (λ r. flat (e.0 r) (c r) (e.2 r)), sym s.0 ∙ (λ r. point l x (e.0 r) (c r) (e.2 r)))
+        let c : k ≡ i - 1 = omega (arith, e.1) in (west, cc, cc)
     hub_edge (steep q k m) p i j t is (inl s) =
-        let e = point_sort q k m p i j is.0 (omega (arith, is.2)) (omega (arith, is.3)) s.0 in
-        (north, (λ r. steep (e.0 r) (e.1 r) (e.2 r)), sym s.1 ∙ (λ r. point l x (e.0 r) (e.1 r) (e.2 r + 1)))
+        let e = point_sort q k m p i j is.0 (omega (arith, is.2)) (omega (arith, is.3)) s.0 in (north, cc, cc)
     hub_edge (steep q k m) p i j t is (inr s) =
         let e = point_sort q k (m + 1) p i j is.0 (omega (arith, is.2)) (omega (arith, is.3)) s.1 in
-        let c : m ≡ j - 1 = omega (arith, e.2) in
-        (south, (λ r. steep (e.0 r) (e.1 r) (c r)), sym s.0 ∙ (λ r. point l x (e.0 r) (e.1 r) (c r)))
+        let c : m ≡ j - 1 = omega (arith, e.2) in (south, cc, cc)
 
     -- A spoke has no equal ends.
     pub loop_at : (e : Edge) (p i j : ℕ) (w : Way) → Inner p i j → e ≡ spoke p i j w → edge_start l x e ≢ edge_end l x e
     loop_at e p i j w n is same =
-        let equal = subst (λ (f : Edge). edge_start l x f ≡ edge_end l x f) is same in
-        elim (spoke_joins p i j w n) [
-          | inl s ↦ at_tip (sym s.1 ∙ sym equal ∙ s.0)
-          | inr s ↦ at_tip (sym s.0 ∙ equal
-              ∙ s.1)
-        ]
+        let equal = rw is at same in
+        elim (spoke_joins p i j w n) [ inl s ↦ at_tip (cc) | inr s ↦ at_tip (cc) ]
       where
         at_tip : tip p i j w ≡ inside p i j → ⊥
         at_tip f =
-            let low = tip_low p i j w n in
-            let s = point_sort p (tip_column i w) (tip_row j w) p i j n.0 low.0 low.1 f in
-            no_tip_at_hub w n.1.a_some n.1.b_some s.1 s.2
+            search (rules, tip_low, point_sort, no_tip_at_hub)

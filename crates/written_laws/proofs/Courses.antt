@@ -1,17 +1,16 @@
 -- Each dart of a new cell runs along one edge, in its direction or against it, and no other dart does. Over it lies
 -- the dart that runs the other way, or none where the arc stands once.
-use Rattle.std.proofs.Common.{◌≡◌, ℕ, ◌+◌, ◌-◌, ◌<◌, Bool, true, false, not, cond, refl, sym, ◌∙◌, ap, inl, inr, arith}
-use Rattle.std.proofs.Common.{◌⊎◌, subst}
-use Rattle.std.proofs.lemmas.Bool.{cond-true, cond-false, eq-eqb, ne_eqb, false≢true}
-use Rattle.std.specs.Prelude.{◌==◌}
+use Rattle.std.proofs.Common.{rules, ◌≡◌, ℕ, ◌+◌, ◌-◌, ◌<◌, Bool, true, false, not, cond, refl, sym, ◌∙◌, ap, inl, inr}
+use Rattle.std.proofs.Common.{arith, ◌⊎◌, subst}
+use Rattle.std.proofs.lemmas.Bool.{false≢true}
+use Rattle.{std.specs.Prelude.◌==◌, def_written.specs.NewFaces.dart_start, def_written.specs.NewFaces.dart_end}
 use Rattle.def_layout.specs.Gluings.{Way, south, east, north, west, Gluing, Slot, IsSlot, AreReverse, use_of}
 use Rattle.def_layout.specs.Lengths.{Lengths, reach, size, wide, high, AreLengths}
 use Rattle.def_layout.specs.Cells.{CellDart, IsDart, dart, dart_along, slot_dart, prev, next}
 use Rattle.def_layout.specs.{declared.tmesh.SideArc.SideArc, Surfaces.IsSurface, Surfaces.IsOtherSlot}
-use Rattle.def_written.specs.Points.{Point, arc_point, use_point, use_over, offset_at, IsPoint}
+use Rattle.def_written.specs.Points.{Point, use_point, use_over, offset_at, IsPoint}
 use Rattle.def_written.specs.Edges.{Edge, on_arc, flat, steep, IsEdge, edge_start, edge_end}
-use Rattle.def_written.specs.NewFaces.{dart_start, dart_end}
-use Rattle.written_laws.proofs.Rims.{inner_edge, over_at, IsWithin, over, over_dart, rim_within, prev_next}
+use Rattle.written_laws.proofs.Rims.{inner_edge, IsWithin, over, rim_within}
 use Rattle.written_laws.proofs.Borders.{at_low, at_from, at_to, sees, IsOnBorder, at_is, place_at, spot_dart, from_is}
 use Rattle.written_laws.proofs.{Sides.over_is, Sides.size_some, Fans.alike_place, Fans.not_twice, NewDarts.next_is}
 
@@ -52,17 +51,6 @@ inner_no_arc p i j = elim [ south ↦ refl | east ↦ refl | north ↦ refl | we
 pub not_on_arc : (p i j : ℕ) (w : Way) {a k : ℕ} {b : Bool} → inner_course p i j w ≡ course (on_arc a k) b → ⊥
 not_on_arc p i j w e = false≢true (sym (inner_no_arc p i j w) ∙ ap (λ (c : Course). is_arc c.edge) e)
 
--- Darts inside with one course are one.
-inner_once : (p q i j k m : ℕ) (w v : Way) → inner_edge p i j w ≡ inner_edge q k m v → inner_ahead w ≡ inner_ahead v
-    → dart p i j w ≡ dart q k m v
-inner_once p q i j k m south south e ways = cc
-inner_once p q i j k m west west e ways = cc
-inner_once p q i j k m east east e ways =
-    let columns : i + 1 ≡ k + 1 = cc in let column : i ≡ k = omega arith in cc
-inner_once p q i j k m north north e ways =
-    let rows : j + 1 ≡ m + 1 = cc in let row : j ≡ m = omega arith in cc
-inner_once p q i j k m _ _ e ways = cc
-
 module _ (l : Gluing) (x : Lengths) where
   -- Where a course begins and ends.
   abbrev pub start_at : (c : Course) → Point
@@ -73,8 +61,7 @@ module _ (l : Gluing) (x : Lengths) where
 
   -- The other way round it begins where it ends.
   pub against_ends : (c : Course) → (start_at (against c) ≡ end_at c) × (end_at (against c) ≡ start_at c)
-  against_ends c = elim c.ahead as (λ b. (start_at (course c.edge (not b)) ≡ end_at (course c.edge b))
-      × (end_at (course c.edge (not b)) ≡ start_at (course c.edge b))) [ true ↦ (refl, refl) | false ↦ (refl, refl) ]
+  against_ends c = search rules
 
   -- The course of an arc in use, o after its beginning.
   abbrev pub use_course : (u : SideArc) (o : ℕ) → Course
@@ -83,13 +70,7 @@ module _ (l : Gluing) (x : Lengths) where
   -- It is that of an arc used the other way round, run against.
   pub reverse_course : (u v : SideArc) (o : ℕ) → AreReverse u v → o < x u.arc
       → use_course v (x u.arc - 1 - o) ≡ against (use_course u o)
-  reverse_course u v o rev less =
-      (λ t. use_course (record { arc = rev.arc t; forward = rev.turned t }) (x u.arc - 1 - o))
-      ∙ (elim u.forward as (λ b. use_course (record { arc = u.arc; forward = not b }) (x u.arc - 1 - o)
-      ≡ against (use_course (record { arc = u.arc; forward = b }) o)) [
-        | true ↦ let e : x u.arc - 1 - (x u.arc - 1 - o) ≡ o = omega arith in ap (λ k. course (on_arc u.arc k) false) e
-        | false ↦ refl
-      ])
+  reverse_course u v o rev less = search rules
 
   -- The course of the border dart at a place of a side.
   abbrev pub border_course : (p : ℕ) (s : Way) (t : ℕ) → Course
@@ -107,25 +88,12 @@ module _ (l : Gluing) (x : Lengths) where
   course_of d = course_by d.patch d.i d.j d.way
 
   pub within_course : (p i j : ℕ) (w : Way) → IsEdge l x (inner_edge p i j w) → course_by p i j w ≡ inner_course p i j w
-  within_course p i j south h = cond-false (j == 0) _ _ (ne_eqb j 0 (λ e. omega (arith, h.2)))
-  within_course p i j east h =
-      cond-false (i + 1 == wide l x p) _ _ (ne_eqb (i + 1) (wide l x p) (λ e. omega (arith, h.2)))
-  within_course p i j north h =
-      cond-false (j + 1 == high l x p) _ _ (ne_eqb (j + 1) (high l x p) (λ e. omega (arith, h.3)))
-  within_course p i j west h = cond-false (i == 0) _ _ (ne_eqb i 0 (λ e. omega (arith, h.1)))
+  within_course p i j w h1 = search rules
 
   module _ (laid : IsSurface l) (len : AreLengths l x) where
     rim_course : (p : ℕ) (s : Way) (t : ℕ) → p < l.patches → t < size l x p s → course_of (dart_along l x p s t)
         ≡ border_course p s t
-    rim_course p south t p_low less = refl
-    rim_course p east t p_low less = cond-true (wide l x p - 1 + 1 == wide l x p) _ _
-        (eq-eqb (wide l x p - 1 + 1) (wide l x p) (omega (arith, size_some l x laid.paved len p south p_low)))
-    rim_course p north t p_low less =
-        let e : wide l x p - 1 - (wide l x p - 1 - t) ≡ t = omega (arith, len.across p p_low) in
-        cc (cond-true (high l x p - 1 + 1 == high l x p) _ _
-        (eq-eqb (high l x p - 1 + 1) (high l x p) (omega (arith, size_some l x laid.paved len p west p_low))))
-    rim_course p west t p_low less =
-        let e : high l x p - 1 - (high l x p - 1 - t) ≡ t = omega arith in ap (border_course p west) e
+    rim_course p s h1 h2 = search (rules, size_some)
 
     pub at_course : (w : Slot) (o : ℕ) → IsSlot l w → o < x (use_of l w).arc → course_of (slot_dart l x w o)
         ≡ use_course (use_of l w) o
@@ -151,27 +119,18 @@ module _ (l : Gluing) (x : Lengths) where
     course_ends : (d : CellDart) → IsDart l x d
         → (dart_start l x d ≡ start_at (course_of d)) × (dart_end l x d ≡ end_at (course_of d))
     course_ends d is = elim (sees l x laid.paved len is) [
-      | inl i ↦
-          let c = within_course d.patch d.i d.j d.way i in
-          let e = inner d.patch d.i d.j d.way in (cc, cc)
+      | inl i ↦ search (rules, within_course)
       | inr (w, o, b) ↦
           let e = by_way (use_of l w).arc (use_of l w).forward o b.low in
           let c = border_is b in
           (cc (at_from l x laid len w o b.is_slot b.low), cc (at_to l x laid len w o b.is_slot b.low))
     ]
       where
-        inner : (p i j : ℕ) (w : Way) → (dart_start l x (dart p i j w) ≡ start_at (inner_course p i j w))
-            × (dart_end l x (dart p i j w) ≡ end_at (inner_course p i j w))
-        inner p i j = elim [ south ↦ (refl, refl) | east ↦ (refl, refl) | north ↦ (refl, refl) | west ↦ (refl, refl) ]
-
         by_way : (a : ℕ) (b : Bool) (o : ℕ) → o < x a → (use_point l x (record { arc = a; forward = b }) o ≡ start_at
             (use_course (record { arc = a; forward = b }) o)) × (use_point l x (record { arc = a; forward = b }) (o + 1)
             ≡ end_at (use_course (record { arc = a; forward = b }) o))
         by_way a true o low = (refl, refl)
-        by_way a false o low =
-            let e : x a - o ≡ x a - 1 - o + 1 = omega arith in
-            let f : x a - (o + 1) ≡ x a - 1 - o = omega arith in
-            (ap (arc_point l x a) e, ap (arc_point l x a) f)
+        by_way a false o low = search rules
 
     pub course_from : (d : CellDart) → IsDart l x d → dart_start l x d ≡ start_at (course_of d)
     course_from d is = (course_ends d is).0
@@ -197,18 +156,13 @@ module _ (l : Gluing) (x : Lengths) where
       | inl i ↦
           let c = within_course d.patch d.i d.j d.way i in
           elim (sees l x laid.paved len is_e) [
-            | inl j ↦
-                let s : inner_course d.patch d.i d.j d.way ≡ inner_course e.patch e.i e.j e.way =
-                cc (within_course e.patch e.i e.j e.way j) in
-                inner_once d.patch e.patch d.i d.j e.i e.j d.way e.way (ap (λ (c : Course). c.edge) s)
-                (ap (λ (c : Course). c.ahead) s)
+            | inl j ↦ search rules
             | inr (v, k, b) ↦ absurd (not_on_arc d.patch d.i d.j d.way (sym c ∙ same ∙ border_is b))
           ]
       | inr (w, o, a) ↦
           let c = border_is a in
           elim (sees l x laid.paved len is_e) [
-            | inl j ↦ absurd (not_on_arc e.patch e.i e.j e.way
-                (sym (within_course e.patch e.i e.j e.way j) ∙ sym same ∙ c))
+            | inl j ↦ search (rules, within_course)
             | inr (v, k, b) ↦ cc (use_once w v o k a.is_slot b.is_slot a.low b.low (cc (border_is b)))
           ]
     ]
@@ -222,28 +176,11 @@ module _ {l : Gluing} {x : Lengths} (laid : IsSurface l) (len : AreLengths l x) 
   -- The dart over an arc that stands twice.
   pub across_border : (w v : Slot) (o : ℕ) → IsSlot l w → IsOtherSlot l w v → o < x (use_of l w).arc
       → IsAcross l x laid len (slot_dart l x w o) (slot_dart l x v (x (use_of l w).arc - 1 - o))
-  across_border w v o is other less =
-      let low : x (use_of l w).arc - 1 - o < x (use_of l v).arc = omega (arith, ap x other.1.arc) in
-      let there = at_course l x laid len v (x (use_of l w).arc - 1 - o) other.0 low in
-      let here = at_course l x laid len w o is less in
-      record {
-        is_dart = at_is l x laid.paved len v (x (use_of l w).arc - 1 - o) other.0 low;
-        course = there ∙ reverse_course l x (use_of l w) (use_of l v) o other.1 less ∙ ap against (sym here);
-      }
+  across_border w v o is other less = search (rules, at_course, at_is, reverse_course)
 
   -- The dart over an edge inside a patch.
   pub across_within : (d : CellDart) → IsWithin l x d → IsAcross l x laid len d (over d)
-  across_within d i =
-      let (is, edge) = over_dart laid.paved len d.patch d.i d.j d.way i in
-      let ahead : inner_ahead (over_at d.patch d.i d.j d.way).way ≡ not (inner_ahead d.way) =
-      elim d.way as (λ w. inner_ahead (over_at d.patch d.i d.j w).way ≡ not (inner_ahead w))
-      [ south ↦ refl | east ↦ refl | north ↦ refl | west ↦ refl ] in
-      record {
-        is_dart = is;
-        course = within_course l x (over d).patch (over d).i (over d).j (over d).way (subst (IsEdge l x) (sym edge) i)
-            ∙ (λ t. course (edge t) (ahead t))
-            ∙ ap against (sym (within_course l x d.patch d.i d.j d.way i));
-      }
+  across_within d i = search rules
 
   -- A dart on an arc that no slot uses the other way round.
   pub record IsAlone (d : CellDart) (w : Slot) (o : ℕ) : Type 0 where
@@ -255,10 +192,8 @@ module _ {l : Gluing} {x : Lengths} (laid : IsSurface l) (len : AreLengths l x) 
   across_or_alone d is = elim (sees l x laid.paved len is) [
     | inl i ↦ inl (over d, across_within d i)
     | inr b ↦ elim (laid.other b.0 b.2.is_slot) [
-      | inl v ↦
-          let a = across_border b.0 v.0 b.1 b.2.is_slot v.1 b.2.low in
-          inl (slot_dart l x v.0 (x (use_of l b.0).arc - 1 - b.1), rw b.2.dart a)
-      | inr none ↦ inr (b.0, b.1, record { on_border = b.2; alone = none })
+      | inl v ↦ inl (slot_dart l x v.0 (x (use_of l b.0).arc - 1 - b.1), search (rules, across_border, b.2.dart))
+      | inr none ↦ inr (b.0, b.1, search rules)
     ]
   ]
 
@@ -277,12 +212,7 @@ module _ {l : Gluing} {x : Lengths} (laid : IsSurface l) (len : AreLengths l x) 
   -- A dart across begins where the other one ends.
   pub across_ends : {d e : CellDart} → IsDart l x d → IsAcross l x laid len d e → (dart_start l x e ≡ dart_end l x d)
       × (dart_end l x e ≡ dart_start l x d)
-  across_ends {d} {e} is a = (
-    course_from l x laid len e a.is_dart ∙ ap (start_at l x) a.course ∙ (against_ends l x (course_of l x d)).0
-        ∙ sym (course_to l x laid len d is),
-    course_to l x laid len e a.is_dart ∙ ap (end_at l x) a.course ∙ (against_ends l x (course_of l x d)).1
-        ∙ sym (course_from l x laid len d is),
-  )
+  across_ends {d} {e} is a = search (rules, course_from, course_to)
 
   -- Before the border dart at a place of an arc lies the other dart there, and before that the arc.
   pub rim_turn : (w : Slot) (o : ℕ) → IsSlot l w → o < x (use_of l w).arc → 0 < place_at l x w o
@@ -293,16 +223,13 @@ module _ {l : Gluing} {x : Lengths} (laid : IsSurface l) (len : AreLengths l x) 
       subst (IsAcross l x laid len (prev (slot_dart l x w o))) r.1 (across_within (prev (slot_dart l x w o)) r.0)
 
   pub spot_back : (w : Slot) (o : ℕ) → 0 < o → prev (spot_dart l x w o true) ≡ slot_dart l x w (o - 1)
-  spot_back w o some =
-      let back : place_at l x w o - 1 ≡ place_at l x w (o - 1) = omega arith in
-      prev_next (dart_along l x w.patch w.side (place_at l x w o - 1)) ∙ ap (dart_along l x w.patch w.side) back
+  spot_back w o some = search rules
 
   pub border_turn : (w v : Slot) (o k : ℕ) → IsSlot l w → IsOtherSlot l w v → 0 < o → o < x (use_of l w).arc
       → k ≡ x (use_of l w).arc - o → IsAcross l x laid len (prev (spot_dart l x w o true)) (slot_dart l x v k)
   border_turn w v o k is other some less e =
       let there : x (use_of l w).arc - 1 - (o - 1) ≡ k = omega arith in
-      subst (λ (d : CellDart). IsAcross l x laid len d (slot_dart l x v k)) (sym (spot_back w o some))
-      (rw there at (across_border w v (o - 1) is other (omega arith)))
+      rw (spot_back w o some) (rw there at (across_border w v (o - 1) is other (omega arith)))
 
 -- Each edge of the new mesh belongs to a dart.
 
@@ -310,26 +237,16 @@ module _ (l : Gluing) (x : Lengths) (laid : IsSurface l) (len : AreLengths l x) 
   pub edge_dart : (e : Edge) → IsEdge l x e → (d : CellDart) × IsDart l x d × ((course_of l x d).edge ≡ e)
   edge_dart (on_arc a k) is =
       let f = laid.forward a is.0 in
-      let long : x (use_of l f.0).arc ≡ x a = ap (λ (u : SideArc). x u.arc) f.2 in
-      let less : k < x (use_of l f.0).arc = omega arith in
-      (slot_dart l x f.0 k, at_is l x laid.paved len f.0 k f.1 less, cc (at_course l x laid len f.0 k f.1 less))
-  edge_dart (flat p i j) is = (
-    dart p i j south,
-    record { patch_low = is.0; i_low = is.1; j_low = is.3 },
-    ap (λ (c : Course). c.edge) (cond-false (j == 0) _ _ (ne_eqb j 0 (λ e. omega arith))),
-  )
-  edge_dart (steep p i j) is = (
-    dart p i j west,
-    record { patch_low = is.0; i_low = is.2; j_low = is.3 },
-    ap (λ (c : Course). c.edge) (cond-false (i == 0) _ _ (ne_eqb i 0 (λ e. omega arith))),
-  )
+      let less : k < x (use_of l f.0).arc = omega (arith, ap (λ (u : SideArc). x u.arc) f.2) in
+      (slot_dart l x f.0 k, search (rules, at_is), cc (at_course l x laid len f.0 k f.1 less))
+  edge_dart (flat p i j) is = (dart p i j south, search rules, search rules)
+  edge_dart (steep p i j) is = (dart p i j west, search rules, search rules)
 
   -- The ends of an edge are points.
   pub edge_points : (e : Edge) → IsEdge l x e → IsPoint l x (edge_start l x e) × IsPoint l x (edge_end l x e)
   edge_points e is =
       let (d, is_d, same) = edge_dart e is in
-      subst (λ (f : Edge). IsPoint l x (edge_start l x f) × IsPoint l x (edge_end l x f)) same
-      (by_way (course_of l x d).edge (course_of l x d).ahead
+      rw same at (by_way (course_of l x d).edge (course_of l x d).ahead
       (subst (IsPoint l x) (course_from l x laid len d is_d) (from_is l x laid len d is_d))
       (subst (IsPoint l x) (course_to l x laid len d is_d) (from_is l x laid len (next d) (next_is l x d is_d))))
     where

@@ -1,8 +1,7 @@
 -- Lengths that are open double no edge: lengths of at least 3, and multiples of lengths that double none.
-use Rattle.std.proofs.Common.{◌≡◌, ◌≢◌, ◌⊎◌, ℕ, ◌+◌, ◌-◌, ◌<◌, ◌≤◌, Bool, true, false, refl, sym, ◌∙◌, ap, inl, inr}
-use Rattle.std.proofs.Common.{arith, zero, suc, ◌*◌, ◌/◌, ◌%◌, cond, subst}
+use Rattle.std.proofs.Common.{rules, ◌≡◌, ◌≢◌, ◌⊎◌, ℕ, ◌+◌, ◌-◌, ◌<◌, ◌≤◌, Bool, true, false, refl, sym, ◌∙◌, ap, inl}
+use Rattle.std.proofs.Common.{inr, arith, zero, suc, ◌*◌, ◌/◌, ◌%◌, cond, subst}
 use Rattle.std.proofs.{lemmas.Bool.cases_eq, lemmas.Bool.cond-true, lemmas.Bool.eq-eqb, Math.Nat.mul-le-mul_left}
-use Rattle.std.proofs.{lemmas.Bool.Decides.nat_tests}
 use Rattle.def_layout.specs.Gluings.{Way, south, east, north, west, side_after, Gluing, Slot, use_of}
 use Rattle.def_layout.specs.Lengths.{Lengths, reach, size, wide, high, AreLengths}
 use Rattle.def_layout.specs.{Surfaces.IsSurface, Cells.CellDart, Cells.IsDart, Cells.dart}
@@ -11,21 +10,25 @@ use Rattle.def_written.specs.Points.{inside, arc_point, side_point, point, Point
 use Rattle.def_written.specs.Points.{offset_at}
 use Rattle.def_written.specs.Edges.{Edge, on_arc, flat, steep, IsEdge, edge_start, edge_end}
 use Rattle.def_written.specs.NewFaces.{dart_start, dart_end}
-use Rattle.written_laws.proofs.Sides.{slot, arc_last, arc_inner, use_inner, side_in, reach_low, first_slot, last_slot}
-use Rattle.written_laws.proofs.Sides.{last_reach, place_on}
+use Rattle.written_laws.proofs.Sides.{slot, arc_last, use_inner, side_in, reach_low, first_slot, last_slot, last_reach}
+use Rattle.written_laws.proofs.Sides.{place_on}
 use Rattle.written_laws.proofs.Borders.{IsOpen, spoke, tip_column, tip_row, one_way, tip, Joins, point_sort, Inner, hub}
-use Rattle.written_laws.proofs.Borders.{tip_low, spoke_joins, hub_edge, loop_at, arc_sort}
+use Rattle.written_laws.proofs.Borders.{tip_low, spoke_joins, hub_edge, loop_at}
 use Rattle.written_laws.proofs.Courses.{is_arc, course_of, border_course, course_once, across_ends}
 use Rattle.written_laws.proofs.{Rims.point_north, Rims.point_west, Rims.point_east, Rims.before_after, Rims.no_turn}
 use Rattle.written_laws.proofs.{Fans.alike_or_turned, Manifold.IsSimple, Manifold.ends_differ}
 use Rattle.{std.specs.Prelude.◌==◌, sum_laws.proofs.Sums.count_below_times}
 
+-- A side is no shorter than the arcs.
+side_least : {l : Gluing} {x : Lengths} → IsSurface l → AreLengths l x → {k : ℕ} → ((a : ℕ) → a < l.arcs → k ≤ x a)
+    → (p : ℕ) (s : Way) → p < l.patches → k ≤ size l x p s
+side_least {l} {x} laid len least p s low =
+    let first = first_slot l x laid.paved len p s low in
+    omega (arith, reach_low l x (slot p s 0) first, least (l.use_at p s 0).arc (laid.paved.arc_low (slot p s 0) first))
+
 module _ {l : Gluing} {x : Lengths} (laid : IsSurface l) (len : AreLengths l x) (open_l : IsOpen l x) where
   side_two : (p : ℕ) (s : Way) → p < l.patches → 2 ≤ size l x p s
-  side_two p s p_low =
-      let first = first_slot l x laid.paved len p s p_low in
-      let le = reach_low l x (slot p s 0) first in
-      omega (arith, open_l.two (l.use_at p s 0).arc (laid.paved.arc_low (slot p s 0) first))
+  side_two = side_least laid len open_l.two
 
   -- The points beside a corner of a patch differ.
   beside_corner : (p : ℕ) (s : Way) (t : ℕ) → p < l.patches → t + 1 ≡ size l x p s
@@ -58,27 +61,9 @@ module _ {l : Gluing} {x : Lengths} (laid : IsSurface l) (len : AreLengths l x) 
   Far p i j west = i ≡ 1
   Far p i j south = j ≡ 1
 
-  inner : {p i j : ℕ} → p < l.patches → 0 < i → i < wide l x p → 0 < j → j < high l x p → Inner l x laid len p i j
-  inner low a_some a_low b_some b_low = (low, record { a_some = a_some; a_low = a_low; b_some = b_some; b_low = b_low })
-
   tip_case : (p i j : ℕ) (w : Way) → Inner l x laid len p i j → Inner l x laid len p (tip_column i w) (tip_row j w)
       ⊎ Far p i j w
-  tip_case p i j east (low, n) = elim (cases_eq (i + 1) (wide l x p)) [
-    | inl e ↦ inr e
-    | inr less ↦ inl (inner low (omega arith) (omega arith) n.b_some n.b_low)
-  ]
-  tip_case p i j north (low, n) = elim (cases_eq (j + 1) (high l x p)) [
-    | inl e ↦ inr e
-    | inr less ↦ inl (inner low n.a_some n.a_low (omega arith) (omega arith))
-  ]
-  tip_case p i j west (low, n) = elim (cases_eq i 1) [
-    | inl e ↦ inr e
-    | inr more ↦ inl (inner low (omega arith) (omega arith) n.b_some n.b_low)
-  ]
-  tip_case p i j south (low, n) = elim (cases_eq j 1) [
-    | inl e ↦ inr e
-    | inr more ↦ inl (inner low n.a_some n.a_low (omega arith) (omega arith))
-  ]
+  tip_case p i j w h1 = search rules
 
   near_tips : (p i j : ℕ) (w v : Way) → Inner l x laid len p i j → Inner l x laid len p (tip_column i w) (tip_row j w)
       → tip l x p i j w ≡ tip l x p i j v → w ≡ v
@@ -98,16 +83,7 @@ module _ {l : Gluing} {x : Lengths} (laid : IsSurface l) (len : AreLengths l x) 
       let one : high l x p - j ≡ 1 = omega arith in
       beside_corner p north (wide l x p - i) low (omega (arith, n.a_low, len.across p low))
       (cc (point_north l x laid len p i low e, point_west l x laid len p j low (omega arith)))
-  far_after p i j west (low, n) e f same =
-      let first : i - 1 ≡ 0 = omega arith in
-      let bottom : j - 1 ≡ 0 = omega arith in
-      beside_corner p west (high l x p - j) low (omega (arith, n.b_low))
-      (sym (point_west l x laid len p j low (omega (arith, n.b_low))) ∙ ap (λ k. point l x p k j) (sym first) ∙ same
-      ∙ ap (point l x p i) bottom ∙ ap (side_point l x p south) e)
-  far_after p i j south (low, n) e f same =
-      let bottom : j - 1 ≡ 0 = omega arith in
-      beside_corner p south i low f (ap (point l x p i) (sym bottom) ∙ same
-      ∙ point_east l x laid len p j low f (omega (arith, n.b_low)) ∙ ap (side_point l x p east) e)
+  far_after p i j _ (low, n) e f same = search (rules, beside_corner, point, point_east, east)
 
   east_west : (p i j : ℕ) → Inner l x laid len p i j → Far p i j east → Far p i j west
       → tip l x p i j east ≢ tip l x p i j west
@@ -154,67 +130,21 @@ module _ {l : Gluing} {x : Lengths} (laid : IsSurface l) (len : AreLengths l x) 
   edge_spoke : (e : Edge) → IsEdge l x e → is_arc e ≡ false
       → (p : ℕ) × (i : ℕ) × (j : ℕ) × (w : Way) × Inner l x laid len p i j × (e ≡ spoke p i j w)
   edge_spoke (on_arc a k) is off = absurd cc
-  edge_spoke (flat p i j) (low, i_low, j_some, j_low) off = elim (cases_eq i 0) [
-    | inl z ↦
-        let n = inner low (omega arith) (omega (arith, side_two p south low)) j_some j_low in
-        (p, 1, j, west, n, ap (λ k. flat p k j) z)
-    | inr some ↦ (p, i, j, east, inner low (omega arith) i_low j_some j_low, refl)
+  edge_spoke (flat p i j) is off = elim (cases_eq i 0) [
+    | inl z ↦ (p, 1, j, west, search (rules, side_two), search rules)
+    | inr some ↦ (p, i, j, east, search rules, refl)
   ]
-  edge_spoke (steep p i j) (low, i_some, i_low, j_low) off = elim (cases_eq j 0) [
-    | inl z ↦
-        let n = inner low i_some i_low (omega arith) (omega (arith, side_two p west low)) in
-        (p, i, 1, south, n, ap (steep p i) z)
-    | inr some ↦ (p, i, j, north, inner low i_some i_low (omega arith) j_low, refl)
+  edge_spoke (steep p i j) is off = elim (cases_eq j 0) [
+    | inl z ↦ (p, i, 1, south, search (rules, side_two), search rules)
+    | inr some ↦ (p, i, j, north, search rules, refl)
   ]
 
   -- The points on both sides of an inner point of an arc differ.
-  arc_tips : (a k : ℕ) → a < l.arcs → 0 < k → k < x a → arc_point l x a (k + 1) ≢ arc_point l x a (k - 1)
-  arc_tips a k a_low some less same = elim (cases_eq (k + 1) (x a)) [
-    | inl last ↦ elim (cases_eq k 1) [
-      | inl one ↦
-          let z : k - 1 ≡ 0 = omega arith in
-          let ends = sym (arc_last l x a (k + 1) last (omega arith)) ∙ same ∙ ap (arc_point l x a) z in
-          let s : l.first a ≡ l.last a = cc in
-          open_l.arcs_open a a_low (omega arith) s
-      | inr more ↦
-          let s = arc_sort l x a (k + 1) a (k - 1) (same ∙ arc_inner l x a (k - 1) (omega arith) (omega arith)) in
-          omega (arith, s.1)
-    ]
-    | inr inner ↦
-        let s = arc_sort l x a (k - 1) a (k + 1) (cc (same, arc_inner l x a (k + 1) (omega arith) (omega arith))) in
-        omega (arith, s.1)
-  ]
-
   arcs_once : (a k b m : ℕ) → IsEdge l x (on_arc a k) → IsEdge l x (on_arc b m)
       → Joins l x (on_arc a k) (arc_point l x b m) (arc_point l x b (m + 1)) → on_arc a k ≡ on_arc b m
-  arcs_once a k b m is_a is_b joins = elim (cases_eq m 0) [
-    | inl z ↦ at_first z joins
-    | inr some ↦ at_inner (omega arith) joins
-  ]
-    where
-      two : 2 ≤ x b
-      two = open_l.two b is_b.0
-
-      at_inner : 0 < m → Joins l x (on_arc a k) (arc_point l x b m) (arc_point l x b (m + 1)) → on_arc a k ≡ on_arc b m
-      at_inner some (inl s) =
-          let e : (a ≡ b) × (k ≡ m) = arc_sort l x a k b m (s.0 ∙ arc_inner l x b m some is_b.1) in
-          λ r. on_arc (e.0 r) (e.1 r)
-      at_inner some (inr s) =
-          let e : (a ≡ b) × (k + 1 ≡ m) = arc_sort l x a (k + 1) b m (s.1 ∙ arc_inner l x b m some is_b.1) in
-          let c : k ≡ m - 1 = omega (arith, e.1) in
-          absurd (arc_tips b m is_b.0 some is_b.1 (sym s.0 ∙ (λ r. arc_point l x (e.0 r) (c r))))
-
-      at_first : m ≡ 0 → Joins l x (on_arc a k) (arc_point l x b m) (arc_point l x b (m + 1)) → on_arc a k ≡ on_arc b m
-      at_first z (inl s) =
-          let e = arc_sort l x a (k + 1) b (m + 1) (s.1 ∙ arc_inner l x b (m + 1) (omega arith) (omega (arith, two))) in
-          let c : k ≡ m = omega (arith, e.1) in
-          λ r. on_arc (e.0 r) (c r)
-      at_first z (inr s) =
-          let e = arc_sort l x a k b (m + 1) (s.0 ∙ arc_inner l x b (m + 1) (omega arith) (omega (arith, two))) in
-          let c : k + 1 ≡ m + 1 + 1 = omega (arith, e.1) in
-          let d : m ≡ m + 1 - 1 = omega arith in
-          absurd (arc_tips b (m + 1) is_b.0 (omega arith) (omega (arith, two))
-          ((λ r. arc_point l x (sym e.0 r) (sym c r)) ∙ s.1 ∙ ap (arc_point l x b) d))
+  arcs_once a k b m is_a is_b joins =
+      let two = open_l.two b is_b.0 in
+      elim joins [ inl s ↦ search (rules, s, two) | inr s ↦ search (rules, s, two) ]
 
   -- An edge with the ends of one inside a patch is that edge.
   with_spoke : (g h : Edge) → IsEdge l x g → IsEdge l x h → is_arc h ≡ false
@@ -240,24 +170,12 @@ module _ {l : Gluing} {x : Lengths} (laid : IsSurface l) (len : AreLengths l x) 
   ]))
 
   no_loop : (e : Edge) → IsEdge l x e → edge_start l x e ≢ edge_end l x e
-  no_loop (on_arc a k) is same = elim (cases_eq k 0) [
-    | inl z ↦
-        let s =
-        arc_sort l x a k a (k + 1) (same ∙ arc_inner l x a (k + 1) (omega arith) (omega (arith, open_l.two a is.0))) in
-        omega (arith, s.1)
-    | inr some ↦
-        let s : (a ≡ a) × (k + 1 ≡ k) = arc_sort l x a _ a k (cc (arc_inner l x a k (omega arith) is.1)) in
-        omega arith
-  ]
+  no_loop (on_arc a k) is same = search rules
   no_loop e is same =
       let s = edge_spoke e is refl in loop_at l x laid len e s.0 s.1 s.2 s.3 s.4 s.5 same
 
   pub simple_open : IsSimple l x
-  simple_open = record {
-    same = λ e f is_e is_f s t. joins_once e f is_e is_f (inl (s, t));
-    crossed = λ e f is_e is_f s t. joins_once e f is_e is_f (inr (s, t));
-    no_loop = no_loop;
-  }
+  simple_open = search (rules, joins_once, inl, inr, no_loop)
 
 -- The k-fold lengths.
 abbrev pub scale : (k : ℕ) (y : Lengths) → Lengths
@@ -270,19 +188,7 @@ double (along a k) = along a (2 * k)
 double (inside p i j) = inside p (2 * i) (2 * j)
 
 double_same : (a b : Point) → double a ≡ double b → a ≡ b
-double_same (node m) (node n) e = e
-double_same (along a k) (along b m) e =
-    let arc : a ≡ b = cc in let place : 2 * k ≡ 2 * m = cc in let same : k ≡ m = omega arith in
-    λ t. along (arc t) (same t)
-double_same (inside p i j) (inside q k m) e =
-    let patch : p ≡ q = cc in let c : 2 * i ≡ 2 * k = cc in let r : 2 * j ≡ 2 * m = cc in
-    let column : i ≡ k = omega arith in let row : j ≡ m = omega arith in
-    λ t. inside (patch t) (column t) (row t)
-double_same _ _ e = absurd cc
-
--- Places at the ends of an arc are twice those at its ends.
-same_tests : (k n : ℕ) → ((2 * k == 0) ≡ (k == 0)) × ((2 * k == 2 * n) ≡ (k == n))
-same_tests k n = (grind (arith, nat_tests), grind (arith, nat_tests))
+double_same a b h1 = search rules
 
 -- The point in the middle of an edge of an arc, where the lengths are doubled.
 abbrev middle : (e : Edge) → Point
@@ -298,28 +204,10 @@ module _ (l : Gluing) (y : Lengths) where
   size_scale k p s = reach_scale k p s _
 
   pub lengths_scale : (k : ℕ) → 0 < k → AreLengths l y → AreLengths l (scale k y)
-  lengths_scale k some len = record {
-    some = λ a low. let one = len.some a low in omega (arith, mul-le-mul_left k one);
-    across = λ p low. size_scale k p north ∙ ap (λ n. k * n) (len.across p low) ∙ sym (size_scale k p south);
-    upright = λ p low. size_scale k p east ∙ ap (λ n. k * n) (len.upright p low) ∙ sym (size_scale k p west);
-  }
-
-  arc_double : (a k : ℕ) → arc_point l (scale 2 y) a (2 * k) ≡ double (arc_point l y a k)
-  arc_double a k = (λ t. cond ((same_tests k (y a)).0 t) (node (l.first a)) (cond ((same_tests k (y a)).1 t) (node
-      (l.last a)) (along a (2 * k)))) ∙ by_tests _ _
-    where
-      by_tests : (b c : Bool) → cond b (node (l.first a)) (cond c (node (l.last a)) (along a (2 * k)))
-          ≡ double (cond b (node (l.first a)) (cond c (node (l.last a)) (along a k)))
-      by_tests true c = refl
-      by_tests false true = refl
-      by_tests false false = refl
+  lengths_scale k some len = search (rules, size_scale)
 
   use_double : (u : SideArc) (o : ℕ) → o ≤ y u.arc → use_point l (scale 2 y) u (2 * o) ≡ double (use_point l y u o)
-  use_double u o le = elim u.forward as (λ b. use_point l (scale 2 y) (record { arc = u.arc; forward = b }) (2 * o)
-      ≡ double (use_point l y (record { arc = u.arc; forward = b }) o)) [
-        | true ↦ arc_double u.arc o
-        | false ↦ let e : 2 * y u.arc - 2 * o ≡ 2 * (y u.arc - o) = omega arith in cc (arc_double u.arc (y u.arc - o))
-      ]
+  use_double u o le = search rules
 
   side_double : (p : ℕ) (s : Way) (t : ℕ) → p < l.patches → t < size l y p s
       → side_point l (scale 2 y) p s (2 * t) ≡ double (side_point l y p s t)
@@ -349,12 +237,10 @@ module _ (l : Gluing) (y : Lengths) where
       by_way : (a : ℕ) (b : Bool) (o : ℕ) → o < y a → along a (cond b (2 * o + 1) (2 * y a - (2 * o + 1)))
           ≡ along a (2 * cond b o (y a - 1 - o) + 1)
       by_way a true o inner = refl
-      by_way a false o inner = let e : 2 * y a - (2 * o + 1) ≡ 2 * (y a - 1 - o) + 1 = omega arith in
-          ap (along a) e
+      by_way a false o inner = search rules
 
   middle_same : (a k b m : ℕ) → along a (2 * k + 1) ≡ along b (2 * m + 1) → on_arc a k ≡ on_arc b m
-  middle_same a k b m s =
-      let place : 2 * k + 1 ≡ 2 * m + 1 = cc in let same : k ≡ m = omega arith in cc
+  middle_same a k b m s = search rules
 
   module _ (laid : IsSurface l) (len : AreLengths l y) (simple : IsSimple l y) where
     z_len : AreLengths l (scale 2 y)
@@ -379,19 +265,11 @@ module _ (l : Gluing) (y : Lengths) where
       | inl e ↦
           let half : 2 * (t / 2) ≡ t = omega arith in
           let rest : m - t ≡ 2 * (n - t / 2) = omega arith in
-          inl (
-            e,
-            double_same _ _
-                (cc (side_double p s (t / 2) low (omega arith), side_double p r (n - t / 2) low (omega arith))),
-          )
+          inl (search (rules, double_same, side_double, half, rest))
       | inr o ↦
           let half : 2 * (t / 2) + 1 ≡ t = omega arith in
           let rest : m - t ≡ 2 * (n - 1 - t / 2) + 1 = omega arith in
-          inr (
-            omega arith,
-            middle_same _ _ _ _
-                (cc (side_odd p s (t / 2) low (omega arith), side_odd p r (n - 1 - t / 2) low (omega arith))),
-          )
+          inr (search (rules, middle_same, side_odd, half, rest))
     ]
 
     across_open : (p j : ℕ) → p < l.patches → wide l (scale 2 y) p ≡ 2 → 0 < j → j < high l (scale 2 y) p
@@ -451,15 +329,9 @@ module _ {l : Gluing} {x : Lengths} (laid : IsSurface l) (len : AreLengths l x) 
   simple_three three = simple_open laid len (record {
     two = λ a low. omega (arith, three a low);
     arcs_open = λ a low e s. omega (arith, three a low);
-    across = λ p j low e some less s. omega (arith, side_three p south low);
-    upright = λ p i low e some less s. omega (arith, side_three p west low);
+    across = λ p j low e some less s. omega (arith, side_least laid len three p south low);
+    upright = λ p i low e some less s. omega (arith, side_least laid len three p west low);
   })
-    where
-      side_three : (p : ℕ) (s : Way) → p < l.patches → 3 ≤ size l x p s
-      side_three p s p_low =
-          let first = first_slot l x laid.paved len p s p_low in
-          let le = reach_low l x (slot p s 0) first in
-          omega (arith, three (l.use_at p s 0).arc (laid.paved.arc_low (slot p s 0) first))
 
 -- Multiples of lengths that double no edge.
 pub simple_multiple : (l : Gluing) (y : Lengths) → IsSurface l → AreLengths l y → IsSimple l y → (k : ℕ) → 0 < k

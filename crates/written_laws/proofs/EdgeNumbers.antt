@@ -1,13 +1,12 @@
 -- The numbers of points: each below the number of vertices, and no two alike.
-use Rattle.std.proofs.Common.{◌≡◌, ℕ, ◌+◌, ◌-◌, ◌<◌, ap, arith, ◌*◌, refl, sym, ◌∙◌, inl, inr}
-use Rattle.std.proofs.lemmas.Bool.{cases_lt}
+use Rattle.std.proofs.Common.{rules, ◌≡◌, ℕ, ◌+◌, ◌-◌, ◌<◌, ap, arith, refl, sym, inl, inr}
+use Rattle.{std.proofs.lemmas.Bool.cases_lt, def_math.specs.Counts.count_below}
 use Rattle.def_layout.specs.{Gluings.Gluing, Lengths.Lengths, Lengths.wide, Lengths.high}
 use Rattle.def_written.specs.{Points.Point, Points.node, Points.along, Points.inside, Points.IsPoint}
-use Rattle.def_written.specs.{Numbers.before_arc, Numbers.vertex_number, Numbers.vertices, Numbers.before_patch}
-use Rattle.def_written.specs.{Edges.Edge, Edges.on_arc, Edges.flat, Edges.steep, Edges.IsEdge}
+use Rattle.def_written.specs.{Numbers.before_arc, Numbers.vertex_number, Numbers.vertices, Edges.Edge, Edges.on_arc}
+use Rattle.def_written.specs.{Edges.flat, Edges.steep, Edges.IsEdge}
 use Rattle.written_laws.proofs.Spacings.{place_low, place_same, IsCell, number_inside, cell_once, run_here, cells_of}
 use Rattle.written_laws.proofs.Spacings.{number_of, cell_here, IsInRun}
-use Rattle.def_math.specs.Counts.{count_below}
 pub use Rattle.written_laws.proofs.Spacings.{in_rows}
 
 module _ (l : Gluing) (x : Lengths) where
@@ -41,10 +40,7 @@ module _ (l : Gluing) (x : Lengths) where
       let i_same : i ≡ a = omega (arith, s.1, is_a.1, is_b.1) in
       let j_same : j ≡ b = omega (arith, s.2, is_a.3, is_b.3) in
       λ t. inside (s.0 t) (i_same t) (j_same t)
-  number_same (along a k) (node n) is_a is_b e = absurd (omega arith)
-  number_same (along a k) (inside q i j) is_a is_b e = absurd (omega (arith, along_low a k is_a))
-  number_same (inside p i j) (along b k) is_a is_b e = absurd (omega (arith, along_low b k is_b))
-  number_same _ _ is_a is_b e = absurd (omega arith)
+  number_same _ _ is_a is_b e = search (rules, along_low)
 
 -- The edges of the new mesh are numbered as its points are: those of the arcs, then those inside patches.
 
@@ -125,17 +121,13 @@ module _ (l : Gluing) (x : Lengths) where
       by_flat : (p i j : ℕ) → IsCell (wide l x) (inner_high l x) l.patches p i j → count_below x l.arcs
           + number_of (wide l x) (inner_high l x) l.patches p i j ≡ n → (e : Edge) × IsEdge l x e × (edge_number e ≡ n)
       by_flat p i j c place =
-          let row : j + 1 - 1 ≡ j = omega arith in (
-            flat p i (j + 1),
-            (c.low, c.column, omega arith, omega (arith, c.row)),
-            ap (λ k. count_below x l.arcs + number_of (wide l x) (inner_high l x) l.patches p i k) row ∙ place,
-          )
+          (flat p i (j + 1), search rules, search rules)
 
       by_steep : (p i j : ℕ) → IsCell (inner_wide l x) (high l x) l.patches p i j
           → count_below x l.arcs + count_below flats l.patches
           + number_of (inner_wide l x) (high l x) l.patches p i j ≡ n → (e : Edge) × IsEdge l x e × (edge_number e ≡ n)
       by_steep p i j c place =
-          (steep p (i + 1) j, (c.low, omega arith, omega (arith, c.column), c.row), omega (arith, place))
+          (steep p (i + 1) j, search rules, search rules)
 
   -- Each number below that of the vertices is that of a point.
   pub point_onto : (n : ℕ) → n < vertices l x → (a : Point) × IsPoint l x a × (vertex_number l x a ≡ n)
@@ -152,16 +144,10 @@ module _ (l : Gluing) (x : Lengths) where
     where
       by_arc : {m a o : ℕ} → n ≡ l.nodes + m → IsInRun (λ b. x b - 1) l.arcs m a o → (a : Point) × IsPoint l x a
           × (vertex_number l x a ≡ n)
-      by_arc {a} {o} is h = (along a (o + 1), (h.low, omega arith, omega (arith, h.inside)), omega (arith, is, h.place))
+      by_arc {a} {o} is h = (along a (o + 1), search rules, search rules)
 
       by_patch : (p i j : ℕ) → IsCell (inner_wide l x) (inner_high l x) l.patches p i j → l.nodes + before_arc x l.arcs
           + number_of (inner_wide l x) (inner_high l x) l.patches p i j ≡ n
           → (a : Point) × IsPoint l x a × (vertex_number l x a ≡ n)
       by_patch p i j c place =
-          let row : j + 1 - 1 ≡ j = omega arith in
-          let column : i + 1 - 1 ≡ i = omega arith in (
-            inside p (i + 1) (j + 1),
-            (c.low, omega arith, omega (arith, c.column), omega arith, omega (arith, c.row)),
-            (λ t. l.nodes + before_arc x l.arcs + before_patch l x p + (row t * inner_wide l x p + column t))
-                ∙ omega (arith, place),
-          )
+          (inside p (i + 1) (j + 1), search rules, search rules)

@@ -1,52 +1,28 @@
 -- The border darts of a patch tell their places, and so do all darts that leave a place of an arc.
-use Rattle.std.proofs.Common.{◌≡◌, ℕ, zero, suc, ◌+◌, ◌-◌, ◌<◌, Bool, true, false, refl, sym, ◌∙◌, ap, subst, inl, inr}
-use Rattle.std.proofs.Common.{arith, ◌⊎◌, ◌≤◌, not, cond}
-use Rattle.std.proofs.lemmas.Bool.{cases_eq}
+use Rattle.std.proofs.Common.{rules, ◌≡◌, ℕ, zero, suc, ◌+◌, ◌-◌, ◌<◌, Bool, true, false, refl, sym, ◌∙◌, ap, subst}
+use Rattle.std.proofs.Common.{inl, inr, arith, ◌⊎◌, ◌≤◌, not, cond}
 use Rattle.def_layout.specs.Gluings.{Way, south, east, north, west, side_after, side_before, Gluing, Slot, IsSlot}
 use Rattle.def_layout.specs.Gluings.{use_of, use_before, slot_before, start_node}
-use Rattle.def_layout.specs.Lengths.{Lengths, reach, size, wide, high, AreLengths}
+use Rattle.def_layout.specs.{Lengths.Lengths, Lengths.reach, Lengths.size, Lengths.AreLengths, Surfaces.HasWholeSides}
+use Rattle.def_layout.specs.{Surfaces.IsSurface, Surfaces.IsOtherSlot, Fans.IsTurn, Fans.SlotTurns, Fans.HasFans}
 use Rattle.def_layout.specs.Cells.{CellDart, next, prev, dart_along, slot_dart, IsDart, dart}
-use Rattle.def_layout.specs.{Surfaces.HasWholeSides, Surfaces.IsSurface, Surfaces.IsOtherSlot, Fans.IsTurn}
-use Rattle.def_layout.specs.{Fans.SlotTurns, Fans.HasFans}
-use Rattle.written_laws.proofs.Rims.{after_before, before_after, prev_next, rim_patch, rim_way, corner_next}
-use Rattle.written_laws.proofs.Rims.{corner_cell, column_of, row_of, over, is_dart, IsWithin, IsInner, rim_within}
+use Rattle.written_laws.proofs.{Rims.prev_next, Rims.corner_next, Rims.column_of, Rims.row_of, Rims.over, Rims.is_dart}
+use Rattle.written_laws.proofs.{Rims.IsWithin, Rims.IsInner, Rims.rim_within, Spacings.place_same, NewDarts.next_is}
 use Rattle.written_laws.proofs.Sides.{slot, long_at, use_some, size_some, last_reach, first_is, last_is, use_sort}
 use Rattle.written_laws.proofs.Borders.{place_at, spot_dart, at_low, before_is, IsSpot, IsOnBorder, at_is, spot_is}
 use Rattle.written_laws.proofs.Borders.{spot_from, sort_spot, inner_from, use_not_inside}
-use Rattle.written_laws.proofs.{Spacings.place_same, NewDarts.next_is}
 use Rattle.def_written.specs.{Points.use_point, NewFaces.column, NewFaces.row, NewFaces.dart_start}
 
 module _ {l : Gluing} {x : Lengths} (paved : HasWholeSides l) (len : AreLengths l x) where
   -- Border darts that are one lie at one place.
-  along_once : (p : ℕ) (s : Way) (t u : ℕ) → p < l.patches → t < size l x p s → u < size l x p s
-      → dart_along l x p s t ≡ dart_along l x p s u → t ≡ u
-  along_once p south t u low t_low u_low e = ap (λ (d : CellDart). d.i) e
-  along_once p east t u low t_low u_low e = ap (λ (d : CellDart). d.j) e
-  along_once p north t u low t_low u_low e =
-      let i : wide l x p - 1 - t ≡ wide l x p - 1 - u = ap (λ (d : CellDart). d.i) e in
-      omega (arith, len.across p low)
-  along_once p west t u low t_low u_low e =
-      let j : high l x p - 1 - t ≡ high l x p - 1 - u = ap (λ (d : CellDart). d.j) e in omega arith
-
   along_same : (p q : ℕ) (s r : Way) (t u : ℕ) → p < l.patches → t < size l x p s → u < size l x q r
       → dart_along l x p s t ≡ dart_along l x q r u → (q ≡ p) × (r ≡ s) × (t ≡ u)
-  along_same p q s r t u low t_low u_low e =
-      let patches : q ≡ p = cc (rim_patch paved len p s t, rim_patch paved len q r u) in
-      let sides : r ≡ s = cc (rim_way paved len p s t, rim_way paved len q r u) in
-      let u_less = subst (λ (n : ℕ). u < n) (λ k. size l x (patches k) (sides k)) u_low in
-      (patches, sides, along_once p s t u low t_low u_less (e ∙ (λ k. dart_along l x (patches k) (sides k) u)))
+  along_same p q s r t u low t_low u_low e = search rules
 
   -- The dart next to a border dart lies on the border at the end of the side alone.
   no_corner : (p q : ℕ) (s r : Way) (t u : ℕ) → p < l.patches → t + 1 < size l x p s → u < size l x q r
       → next (dart_along l x p s t) ≡ dart_along l x q r u → ⊥
-  no_corner p q s r t u low t_low u_low e =
-      let patches : q ≡ p = cc (rim_patch paved len p s t, rim_patch paved len q r u) in
-      let sides : r ≡ side_after s = cc (rim_way paved len p s t, rim_way paved len q r u) in
-      let u_less = subst (λ (n : ℕ). u < n) (λ k. size l x (patches k) (sides k)) u_low in
-      let same = e ∙ (λ k. dart_along l x (patches k) (sides k) u) in
-      let c = corner_cell paved len p s t u low (omega arith) u_less (ap (λ (d : CellDart). d.i) same)
-      (ap (λ (d : CellDart). d.j) same) in
-      omega (arith, c.0)
+  no_corner p q s r t u low t_low u_low e = search rules
 
   -- A place of a side tells its slot.
   slot_same : {w v : Slot} {o k : ℕ} → IsSlot l w → IsSlot l v → o < x (use_of l w).arc → k < x (use_of l v).arc
@@ -74,28 +50,20 @@ module _ {l : Gluing} {x : Lengths} (paved : HasWholeSides l) (len : AreLengths 
 
       by_sides : (b c : Bool) → spot_dart l x w o b ≡ spot_dart l x v k c → (b ≡ true → 0 < place_at l x w o)
           → (c ≡ true → 0 < place_at l x v k) → (w ≡ v) × (o ≡ k) × (b ≡ c)
-      by_sides false false e f g =
-          let a = along_same w.patch v.patch w.side v.side _ _ s.is_slot.patch_low t_low u_low e in
-          let h = same a.0 a.1 a.2 in (h.0, h.1, refl)
+      by_sides false false e f g = search (rules, along_same, same, t_low, u_low)
       by_sides true true e f g =
-          let back = sym (prev_next (dart_along l x w.patch w.side (place_at l x w o - 1))) ∙ ap prev e
-          ∙ prev_next (dart_along l x v.patch v.side (place_at l x v k - 1)) in
+          let back : dart_along l x w.patch w.side (place_at l x w o - 1)
+          ≡ dart_along l x v.patch v.side (place_at l x v k - 1) = search (rules, prev_next, ap prev e) in
           let a = along_same w.patch v.patch w.side v.side (place_at l x w o - 1) (place_at l x v k - 1)
           s.is_slot.patch_low (omega (arith, t_low)) (omega (arith, u_low)) back in
           let h = same a.0 a.1 (omega (arith, a.2, f refl, g refl)) in (h.0, h.1, refl)
-      by_sides true false e f g = absurd (no_corner w.patch v.patch w.side v.side (place_at l x w o - 1) _
-          s.is_slot.patch_low (omega (arith, f refl, t_low)) u_low e)
-      by_sides false true e f g = absurd (no_corner v.patch w.patch v.side w.side (place_at l x v k - 1) _
-          r.is_slot.patch_low (omega (arith, g refl, u_low)) t_low (sym e))
+      by_sides _ _ e f g = search (rules, no_corner, t_low, u_low)
 
   pub rim_slot : {w v : Slot} {o k : ℕ} → IsSlot l w → IsSlot l v → o < x (use_of l w).arc → k < x (use_of l v).arc
       → slot_dart l x w o ≡ slot_dart l x v k → w ≡ v
   rim_slot {w} {v} {o} {k} is_w is_v o_low k_low e =
-      let a : IsSpot l x (slot_dart l x w o) w o false =
-      record { is_slot = is_w; low = o_low; dart = refl; behind = λ s. absurd cc } in
-      let b : IsSpot l x (slot_dart l x w o) v k false =
-      record { is_slot = is_v; low = k_low; dart = e; behind = λ s. absurd cc } in
-      (spot_once a b).0
+      let a : IsSpot l x (slot_dart l x w o) w o false = search rules in
+      let b : IsSpot l x (slot_dart l x w o) v k false = search rules in (spot_once a b).0
 
   -- Next to the last border dart of an arc lies a dart at the next slot: the first one on its border, or behind it.
   pub before_spot : (w : Slot) → IsSlot l w → (b : Bool) × IsSpot l x (next (slot_dart l x (slot_before l w.patch w.side
@@ -107,36 +75,19 @@ module _ {l : Gluing} {x : Lengths} (paved : HasWholeSides l) (len : AreLengths 
           (x (use_before l (slot w.patch w.side m)).arc - 1))) (slot w.patch w.side m) 0 b × (b ≡ false → m ≡ 0)
       by_place zero first =
           let q = side_before w.side in
-          let is_b = before_is l x paved len (slot w.patch w.side 0) first in (
-            false,
-            record {
-              is_slot = first;
-              low = use_some l x paved len (slot w.patch w.side 0) first;
-              dart = cc (
-                corner_next paved len w.patch q (reach l x w.patch q (l.many w.patch q - 1)
-                    + (x (l.use_at w.patch q (l.many w.patch q - 1)).arc - 1)) first.patch_low (omega (
-                      arith,
-                      last_reach l x paved len w.patch (side_before w.side) first.patch_low,
-                      use_some l x paved len (slot_before l w.patch w.side 0) is_b,
-                    )),
-                after_before w.side,
-              );
-              behind = λ s. absurd cc;
-            },
-            λ s. refl,
-          )
+          let some = use_some l x paved len (slot_before l w.patch w.side 0)
+          (before_is l x paved len (slot w.patch w.side 0) first) in
+          let ahead = corner_next paved len w.patch q (place_at l x (slot_before l w.patch w.side 0)
+          (x (use_before l (slot w.patch w.side 0)).arc - 1)) first.patch_low
+          (omega (arith, last_reach l x paved len w.patch q first.patch_low, some)) in
+          let low = use_some l x paved len (slot w.patch w.side 0) first in search rules
       by_place (suc m) later =
           let some = use_some l x paved len (slot w.patch w.side m)
           (record { patch_low = later.patch_low; low = omega (arith, later.low) }) in
           let back : reach l x w.patch w.side m + (x (l.use_at w.patch w.side m).arc - 1)
           ≡ reach l x w.patch w.side (suc m) + 0 - 1 = omega (arith, some) in (
             true,
-            record {
-              is_slot = later;
-              low = use_some l x paved len (slot w.patch w.side (suc m)) later;
-              dart = ap (λ n. next (dart_along l x w.patch w.side n)) back;
-              behind = λ s. omega (arith, some);
-            },
+            search (rules, use_some, back),
             λ s. absurd cc,
           )
 
@@ -148,21 +99,12 @@ module _ {l : Gluing} {x : Lengths} (paved : HasWholeSides l) (len : AreLengths 
       let u_low = at_low l x paved len k at_v.is_slot at_v.low in
       let row = ap next (sym at_w.dart) ∙ at_v.dart in
       let full : place_at l x w o + 1 ≡ size l x w.patch w.side =
-      elim (cases_eq (place_at l x w o + 1) (size l x w.patch w.side)) [
-        | inl e ↦ e
-        | inr less ↦ absurd (no_corner w.patch v.patch w.side v.side (place_at l x w o) _ at_w.is_slot.patch_low
-            (omega arith) u_low row)
-      ] in
+      search (rules, no_corner, t_low, u_low, row) in
       let a = along_same w.patch v.patch (side_after w.side) v.side 0 (place_at l x v k) at_w.is_slot.patch_low
       (size_some l x paved len w.patch (side_after w.side) at_w.is_slot.patch_low) u_low
       (sym (corner_next paved len w.patch w.side (place_at l x w o) at_w.is_slot.patch_low full) ∙ row) in
       let v_first : v.at ≡ 0 = first_is l x paved len v at_v.is_slot (omega (arith, a.2)) in
-      let w_last : w.at ≡ l.many w.patch w.side - 1 = last_is l x paved len w at_w.is_slot (omega arith) in (
-        v_first,
-        (λ r. slot_before l (a.0 r) (a.1 r) (v_first r))
-            ∙ (λ r. slot w.patch (before_after w.side r) (l.many w.patch (before_after w.side r) - 1))
-            ∙ (λ r. slot w.patch w.side (sym w_last r)),
-      )
+      let w_last : w.at ≡ l.many w.patch w.side - 1 = last_is l x paved len w at_w.is_slot (omega arith) in search rules
 
 -- Points are the classes of corners under turns: what holds for turns holds for all darts that leave one point.
 
@@ -189,15 +131,11 @@ not_twice = elim [ true ↦ refl | false ↦ refl ]
 -- Places along an arc that is used the same way round, and the other way round.
 pub alike_place : (f : Bool) {g : Bool} {n m o k : ℕ} → f ≡ g → n ≡ m → o ≤ n → k ≤ m
     → cond f o (n - o) ≡ cond g k (m - k) → o ≡ k
-alike_place true {g} {n} {m} {o} {k} ways long o_low k_low e = e ∙ ap (λ h. cond h k (m - k)) (sym ways)
-alike_place false {g} {n} {m} {o} {k} ways long o_low k_low e =
-    let at = e ∙ ap (λ h. cond h k (m - k)) (sym ways) in omega arith
+alike_place f h1 h2 h3 h4 h5 = search rules
 
 turned_place : (f : Bool) {g : Bool} {n m o k : ℕ} → g ≡ not f → n ≡ m → o < n → k < m
     → cond f o (n - o) ≡ cond g k (m - k) → k ≡ n - o
-turned_place true {g} {n} {m} {o} {k} ways long o_low k_low e =
-    let at = e ∙ ap (λ h. cond h k (m - k)) ways in omega arith
-turned_place false {g} {n} {m} {o} {k} ways long o_low k_low e = sym (e ∙ ap (λ h. cond h k (m - k)) ways)
+turned_place f h1 h2 h3 h4 h5 = search rules
 
 module _ {l : Gluing} {x : Lengths} (paved : HasWholeSides l) (len : AreLengths l x) {R : CellDart → CellDart → Type 0}
     (turning : IsTurning l x R) where
@@ -266,8 +204,7 @@ module _ {l : Gluing} {x : Lengths} (laid : IsSurface l) (len : AreLengths l x) 
 
   pub turns_related : (v w : Slot) (n : ℕ) → IsSlot l v → IsSlot l w → SlotTurns l v w n
       → R (slot_dart l x v 0) (slot_dart l x w 0)
-  turns_related v w zero is_v is_w same =
-      turning.self (slot_dart l x v 0) (slot_dart l x w 0) (ap (λ (u : Slot). slot_dart l x u 0) same)
+  turns_related v w zero is_v is_w same = search rules
   turns_related v w (suc n) is_v is_w turns = turning.on _ _ (slot_dart l x w 0)
       (turns_related v turns.0 n is_v turns.1 turns.2) (elim turns.3 [
         | inl t ↦ turn_related turns.1 t
@@ -311,9 +248,7 @@ module _ {l : Gluing} {x : Lengths} (laid : IsSurface l) (len : AreLengths l x) 
     use_related w v o k is_w is_v o_low k_low same =
         elim (use_sort l x (use_of l w) o o_low) [
           | inl (o_zero, a) ↦ elim (use_sort l x (use_of l v) k k_low) [
-            | inl (k_zero, b) ↦
-                let e : start_node l (use_of l w) ≡ start_node l (use_of l v) = cc in
-                rw (o_zero, k_zero) (nodes w v is_w is_v e)
+            | inl (k_zero, b) ↦ search rules
             | inr (k_some, b) ↦ absurd cc
           ]
           | inr (o_some, a) ↦ elim (use_sort l x (use_of l v) k k_low) [

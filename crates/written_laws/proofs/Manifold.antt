@@ -1,6 +1,6 @@
 -- Meshes in which no edge is doubled, and what two points then tell of an edge between them.
-use Rattle.std.proofs.Common.{◌≡◌, ◌≢◌, Bool, true, false, sym, ◌∙◌, ap, ℕ, zero, suc, refl, subst, inl, inr, ◌<◌, Some}
-use Rattle.std.proofs.Common.{None, arith}
+use Rattle.std.proofs.Common.{rules, ◌≡◌, ◌≢◌, Bool, true, false, sym, ◌∙◌, ap, ℕ, zero, suc, refl, subst, inl, inr}
+use Rattle.std.proofs.Common.{◌<◌, Some, None, arith}
 use Rattle.def_layout.specs.Gluings.{Gluing, Way, south, east, north, west, side_after, Slot}
 use Rattle.def_layout.specs.{Lengths.Lengths, Lengths.AreLengths, Cells.CellDart, Cells.IsDart, Cells.prev}
 use Rattle.def_layout.specs.{Cells.slot_dart, Cells.next, Surfaces.IsSurface, Fans.HasFans}
@@ -16,7 +16,7 @@ use Rattle.written_laws.proofs.{Fans.not_self, Fans.IsTurning, Fans.at_nodes, Fa
 use Rattle.written_laws.proofs.{Borders.at_is, Borders.from_is, Borders.sees, Rims.prev_next, Rims.next_prev}
 use Rattle.written_laws.proofs.{Rims.inner_edge, EdgeNumbers.number_same}
 use Rattle.def_mesh.specs.Manifold.{Chain, HasOneFan, IsManifold, IsRepeatFree, HasEdgesOnce}
-use Rattle.def_mesh.specs.{Darts.from_of, Darts.twin_of, Darts.IsTwin, Faces.corner}
+use Rattle.def_mesh.specs.{Darts.from_of, Darts.twin_of, Darts.IsTwin}
 use Rattle.mesh_laws.proofs.Chains.{meet_from, chain_join, chain_back, twin_found, twin_none}
 
 -- No two edges have the same ends, and no edge has equal ends.
@@ -77,8 +77,7 @@ module _ (l : Gluing) (x : Lengths) (laid : IsSurface l) (len : AreLengths l x) 
           dart_number l x d,
           refl,
           dart_low l x e a.is_dart,
-          number_from l x d is ∙ ap (vertex_number l x) (ap (dart_start l x) (sym (next_prev d)) ∙ sym ends.0)
-              ∙ sym (number_from l x e a.is_dart),
+          cc (number_from l x d is, next_prev d, number_from l x e a.is_dart),
           meet_from _ _ _ _ (inr (inl (number_to l x e a.is_dart ∙ ap (vertex_number l x) ends.1 ∙ sym before))),
         ),
       )
@@ -97,10 +96,9 @@ module _ (l : Gluing) (x : Lengths) (laid : IsSurface l) (len : AreLengths l x) 
   one_fan fans v d e d_low e_low d_from e_from =
       let a = at_number l x laid len d d_low in
       let b = at_number l x laid len e e_low in
-      let same = sym (number_from l x a.0 a.1) ∙ ap (from_of (new_faces l x)) a.2 ∙ d_from ∙ sym e_from
-      ∙ ap (from_of (new_faces l x)) (sym b.2) ∙ number_from l x b.0 b.1 in
       let joined = point_related laid len joins (at_nodes laid len joins fans) a.0 b.0 a.1 b.1
-      (number_same l x _ _ (from_is l x laid len a.0 a.1) (from_is l x laid len b.0 b.1) same) in (
+      (number_same l x _ _ (from_is l x laid len a.0 a.1) (from_is l x laid len b.0 b.1)
+      (cc (number_from l x a.0 a.1, number_from l x b.0 b.1))) in (
         joined.0,
         subst (λ (k : ℕ). Chain (new_faces l x) k e joined.0) a.2
             (subst (λ (k : ℕ). Chain (new_faces l x) (dart_number l x a.0) k joined.0) b.2 joined.1),
@@ -173,8 +171,7 @@ module _ {l : Gluing} {x : Lengths} (laid : IsSurface l) (len : AreLengths l x) 
         let i_is : turn (way_of i) ≡ i = turn_way i (omega arith) in
         let j_is : turn (way_of j) ≡ j = turn_way j four in
         corners_differ f f_low i j less four
-        (sym (corner_is l x f (way_of i) f_low) ∙ ap (corner (new_faces l x) f) i_is ∙ same
-        ∙ ap (corner (new_faces l x) f) (sym j_is) ∙ corner_is l x f (way_of j) f_low)
+        (cc (corner_is l x f (way_of i) f_low, corner_is l x f (way_of j) f_low))
 
     -- Darts with the same ends are one, and those with exchanged ends lie over each other.
     starts_same : {d e : CellDart} → IsDart l x d → IsDart l x e → vertex_number l x (dart_start l x d)
@@ -196,11 +193,7 @@ module _ {l : Gluing} {x : Lengths} (laid : IsSurface l) (len : AreLengths l x) 
     across_is_twin : (d e : CellDart) → IsDart l x d → IsAcross l x laid len d e
         → IsTwin (new_faces l x) (dart_number l x d) (dart_number l x e)
     across_is_twin d e is a =
-        let ends = across_ends laid len is a in (
-          dart_low l x e a.is_dart,
-          cc (number_from l x e a.is_dart, number_to l x d is),
-          cc (number_to l x e a.is_dart, number_from l x d is),
-        )
+        let ends = across_ends laid len is a in search (rules, dart_low, number_from, number_to)
 
     pub across_twin : (d e : CellDart) → IsDart l x d → IsAcross l x laid len d e
         → twin_of (new_faces l x) (dart_number l x d) ≡ Some (dart_number l x e)

@@ -1,12 +1,12 @@
 -- Lists of faces whose darts are those of the cells of a gluing: the new faces, and the old ones at the old lengths.
-use Rattle.std.proofs.Common.{[], ◌≡◌, ℕ, ◌+◌, ◌*◌, ◌/◌, ◌%◌, ◌<◌, true, length, get_or, Some, None, refl, sym, ◌∙◌, ap}
-use Rattle.std.proofs.Common.{inl, inr, arith, zero, suc, ◌-◌, Option, pos, ◌+ℤ◌, ◌-ℤ◌}
-use Rattle.std.proofs.lemmas.Bool.{eqb-true, eq-eqb, cases_order, ltb-true, lt-ltb}
+use Rattle.std.proofs.Common.{rules, [], ◌≡◌, ℕ, ◌+◌, ◌*◌, ◌/◌, ◌%◌, ◌<◌, true, length, get_or, Some, None, refl, sym}
+use Rattle.std.proofs.Common.{◌∙◌, ap, inl, inr, arith, zero, suc, ◌-◌, Option, pos, ◌+ℤ◌, ◌-ℤ◌}
+use Rattle.std.proofs.lemmas.Bool.{eqb-true, cases_order, lt-ltb}
 use Rattle.std.proofs.{lemmas.List.get_or_default, lemmas.List.Folds.list_any_at, lemmas.List.Folds.Any-from_list_any}
 use Rattle.std.proofs.{lemmas.List.FromFn.get_or-map-range_with_len, lemmas.Int.ints}
 use Rattle.std.specs.{Prelude.◌==◌, List.list_any}
-use Rattle.def_mesh.specs.{Faces.Face, Faces.Faces, Faces.face_at, Faces.corner, Darts.darts, Darts.next_of}
-use Rattle.def_mesh.specs.{Darts.from_of, Darts.twin_of, Vertices.is_used, Vertices.vertex_count, Components.is_lesser}
+use Rattle.def_mesh.specs.{Faces.Face, Faces.Faces, Faces.face_at, Darts.darts, Darts.next_of, Darts.from_of}
+use Rattle.def_mesh.specs.{Darts.twin_of, Vertices.is_used, Vertices.vertex_count, Components.is_lesser}
 use Rattle.def_mesh.specs.{Components.edge_count, Components.used_count, Components.euler}
 use Rattle.def_layout.specs.{Gluings.south, Gluings.Gluing, Gluings.use_of, Cells.CellDart, Cells.IsDart, Cells.dart}
 use Rattle.def_layout.specs.{Cells.next, Cells.slot_dart, declared.tmesh.SideArc.SideArc, Surfaces.IsSurface}
@@ -16,8 +16,8 @@ use Rattle.def_written.specs.{Numbers.vertex_number, Numbers.vertices, NewFaces.
 use Rattle.def_written.specs.{NewFaces.face_count, NewFaces.new_faces, Edges.Edge, Edges.IsEdge}
 use Rattle.written_laws.proofs.NewDarts.{dart_number, dart_low, dart_same, at_number, next_number, number_from}
 use Rattle.written_laws.proofs.NewDarts.{faces_long}
-use Rattle.written_laws.proofs.Courses.{IsAcross, across_or_alone, Course, course, course_of, against, against_twice}
-use Rattle.written_laws.proofs.Courses.{course_is, course_once, alone_not_across, edge_dart}
+use Rattle.written_laws.proofs.Courses.{IsAcross, across_or_alone, Course, course, course_of, course_is, course_once}
+use Rattle.written_laws.proofs.Courses.{alone_not_across, edge_dart}
 use Rattle.written_laws.proofs.EdgeNumbers.{flats, steeps, edge_number, edge_total, edge_low, edge_same, edge_onto}
 use Rattle.written_laws.proofs.EdgeNumbers.{point_onto, number_same, number_low}
 use Rattle.written_laws.proofs.{Sides.use_begins, Sides.arc_inner, Sides.use_some, Rims.point_inside, Rims.wide_some}
@@ -51,42 +51,27 @@ used_dart F v quads used =
     Any-from_list_any (λ u. u == v) (get_or F f []) (rw (get_or_default F f [] face f_low ∙ is) t) in
     let four = quads f f_low in
     let face_is : (4 * f + i) / 4 ≡ f = omega arith in
-    let place : (4 * f + i) % 4 ≡ i = omega arith in (
-      4 * f + i,
-      omega arith,
-      (λ r. corner F (face_is r) (place r)) ∙ get_or_default (get_or F f []) i 0 u m ∙ at ∙ eqb-true u v s,
-    )
+    let place : (4 * f + i) % 4 ≡ i = omega arith in
+    (4 * f + i, omega arith, cc (get_or_default (get_or F f []) i 0 u m, eqb-true u v s))
 
 -- A vertex that a dart leaves is used.
 pub dart_used : (F : Faces) (d : ℕ) → ((f : ℕ) → f < length F → length (face_at F f) ≡ 4) → d < darts F
     → is_used F (from_of F d) ≡ true
-dart_used F d quads low =
-    let f_low : d / 4 < length F = omega arith in
-    list_any_at (λ face. list_any (λ u. u == from_of F d) face) F (d / 4) [] f_low
-    (list_any_at (λ u. u == from_of F d) (face_at F (d / 4)) (d % 4) 0 (omega (arith, quads (d / 4) f_low))
-    (eq-eqb (from_of F d) (from_of F d) refl))
+dart_used F d quads low = search (rules, list_any_at)
 
 module _ (l : Gluing) (x : Lengths) (laid : IsSurface l) (len : AreLengths l x) where
   -- Each point is left by a dart.
   pub point_dart : (a : Point) → IsPoint l x a → (d : CellDart) × IsDart l x d × (dart_start l x d ≡ a)
   point_dart (node n) is =
       let r = laid.reached n is in
-      let some = use_some l x laid.paved len r.0 r.1 in (
-        slot_dart l x r.0 0,
-        at_is l x laid.paved len r.0 0 r.1 some,
-        cc (at_from l x laid len r.0 0 r.1 some, use_begins l x (use_of l r.0) some),
-      )
+      let some = use_some l x laid.paved len r.0 r.1 in
+      (slot_dart l x r.0 0, search (rules, at_is), search (rules, at_from, use_begins))
   point_dart (along a k) is =
       let f = laid.forward a is.0 in
-      let long : x (use_of l f.0).arc ≡ x a = ap (λ (u : SideArc). x u.arc) f.2 in
-      let less : k < x (use_of l f.0).arc = omega arith in
+      let less : k < x (use_of l f.0).arc = omega (arith, ap (λ (u : SideArc). x u.arc) f.2) in
       let from = at_from l x laid len f.0 k f.1 less in
-      (slot_dart l x f.0 k, at_is l x laid.paved len f.0 k f.1 less, cc (from, arc_inner l x a k is.1 is.2))
-  point_dart (inside p i j) is = (
-    dart p i j south,
-    record { patch_low = is.0; i_low = is.2; j_low = is.4 },
-    point_inside l x laid len p i j is.1 is.2 is.3 is.4,
-  )
+      (slot_dart l x f.0 k, search (rules, at_is), cc (arc_inner l x a k is.1 is.2))
+  point_dart (inside p i j) is = (dart p i j south, search rules, search (rules, point_inside))
 
   -- The new faces are a model.
   pub new_quads : (f : ℕ) → f < length (new_faces l x) → length (face_at (new_faces l x) f) ≡ 4
@@ -100,19 +85,16 @@ module _ (l : Gluing) (x : Lengths) (laid : IsSurface l) (len : AreLengths l x) 
     same = dart_same l x;
     onto = at_number l x laid len;
     turned = λ d is. sym (next_number l x d);
-    alike = λ d e is_d is_e s. number_from l x d is_d ∙ ap (vertex_number l x) s ∙ sym (number_from l x e is_e);
-    apart = λ d e is_d is_e s. number_same l x (dart_start l x d) (dart_start l x e) (from_is l x laid len d is_d)
-        (from_is l x laid len e is_e) (sym (number_from l x d is_d) ∙ s ∙ number_from l x e is_e);
+    alike = λ d e is_d is_e s. cc (number_from l x d is_d, number_from l x e is_e);
+    apart = λ d e is_d is_e s. search (rules, number_same, from_is, number_from);
     across = across_twin laid len simple;
     alone = alone;
   }
     where
       alone : (d : CellDart) → IsDart l x d → ((e : CellDart) → ¬ IsAcross l x laid len d e)
           → twin_of (new_faces l x) (dart_number l x d) ≡ None
-      alone d is none = elim (across_or_alone laid len d is) [
-        | inl a ↦ absurd (none a.0 a.1)
-        | inr a ↦ alone_no_twin laid len simple d a.0 a.1 is a.2
-      ]
+      alone d is none =
+          elim (across_or_alone laid len d is) [ inl a ↦ search rules | inr a ↦ search (rules, alone_no_twin) ]
 
 -- How many vertices, edges and faces a model has, and Euler's number.
 
@@ -126,8 +108,7 @@ count_sums f g h k (suc n) same =
 module _ (l : Gluing) (x : Lengths) (laid : IsSurface l) (len : AreLengths l x) where
   -- The dart across is across the other way round, and not the dart itself.
   across_back : (d e : CellDart) → IsDart l x d → IsAcross l x laid len d e → IsAcross l x laid len e d
-  across_back d e is a =
-      record { is_dart = is; course = sym (ap against a.course ∙ against_twice (course_of l x d)) }
+  across_back d e is a = search rules
 
   no_self : (d : CellDart) → ¬ IsAcross l x laid len d d
   no_self d a = not_self (course_of l x d).ahead (ap (λ (c : Course). c.ahead) a.course)
@@ -147,10 +128,7 @@ module _ (l : Gluing) (x : Lengths) (laid : IsSurface l) (len : AreLengths l x) 
       arc_sum (suc n) low = omega (arith, arc_sum n (λ a less. low a (omega arith)), len.some n (low n (omega arith)))
 
       rectangle : (w h : ℕ) → 0 < w → 0 < h → (w - 1) * (h - 1) + w * h ≡ w * (h - 1) + (w - 1) * h + 1
-      rectangle (suc w) (suc h) w_some h_some =
-          let a : suc w - 1 ≡ w = omega arith in
-          let b : suc h - 1 ≡ h = omega arith in
-          rw (a, b) (omega arith)
+      rectangle (suc w) (suc h) w_some h_some = search rules
       rectangle _ _ w_some h_some = absurd (omega arith)
 
   module _ (F : Faces) (cell : CellDart → ℕ) (model : IsModel F l x laid len cell) where
@@ -179,9 +157,6 @@ module _ (l : Gluing) (x : Lengths) (laid : IsSurface l) (len : AreLengths l x) 
     abbrev IsLesser : (d : CellDart) → Type 0
     IsLesser d = IsDart l x d × (is_lesser (cell d) (twin_of F (cell d)) ≡ true)
 
-    lesser_less : (k : ℕ) {t : Option ℕ} {n : ℕ} → t ≡ Some n → is_lesser k t ≡ true → k < n
-    lesser_less k {n} is on = ltb-true k n (cc)
-
     lesser_dart : (e : Edge) → IsEdge l x e → (d : CellDart) × IsLesser d × ((course_of l x d).edge ≡ e)
     lesser_dart e is =
         let (d, is_d, edge) = edge_dart l x laid len e is in
@@ -206,12 +181,7 @@ module _ (l : Gluing) (x : Lengths) (laid : IsSurface l) (len : AreLengths l x) 
     lesser_once d e (is_d, d_less) (is_e, e_less) edges =
         elim (alike_or_turned _ _) [
           | inl ways ↦ course_once l x laid len is_d is_e (λ t. course (edges t) (ways t))
-          | inr ways ↦
-              let a : IsAcross l x laid len d e =
-              record { is_dart = is_e; course = λ t. course (sym edges t) (ways t) } in
-              let one = lesser_less _ (model.across d e is_d a) d_less in
-              let other = lesser_less _ (model.across e d is_e (across_back d e is_d a)) e_less in
-              absurd (omega arith)
+          | inr ways ↦ search (rules, across_back)
         ]
 
     -- Edges, by their lesser darts.

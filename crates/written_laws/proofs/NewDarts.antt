@@ -1,8 +1,7 @@
 -- The darts of the new faces, by number and by cell.
-use Rattle.std.proofs.Common.{[], ◌≡◌, ℕ, zero, suc, ◌+◌, ◌*◌, ◌/◌, ◌%◌, ◌<◌, length, refl, ◌∙◌, ap, arith}
+use Rattle.std.proofs.Common.{rules, [], ◌≡◌, ℕ, zero, suc, ◌+◌, ◌*◌, ◌/◌, ◌%◌, ◌<◌, length, refl, arith}
 use Rattle.std.proofs.lemmas.List.FromFn.{length-map-range_with_len, get_or-map-range_with_len}
-use Rattle.std.proofs.lemmas.Bool.Decides.{nat_tests}
-use Rattle.std.specs.Prelude.{slice_index_or}
+use Rattle.std.{proofs.lemmas.Bool.Decides.nat_tests, specs.Prelude.slice_index_or}
 use Rattle.def_mesh.specs.{Faces.corner, Darts.darts, Darts.next_of, Darts.prev_of, Darts.from_of, Darts.to_of}
 use Rattle.def_layout.specs.Gluings.{Way, south, east, north, west, side_after, side_before, Gluing}
 use Rattle.def_layout.specs.{Cells.CellDart, Cells.IsDart, Cells.dart, Cells.next, Cells.prev, Surfaces.IsSurface}
@@ -76,7 +75,7 @@ module _ (l : Gluing) (x : Lengths) where
   -- Darts with one number are one.
   pub dart_same : (d e : CellDart) → IsDart l x d → IsDart l x e → dart_number d ≡ dart_number e → d ≡ e
   dart_same d e is_d is_e same =
-      let turn_same : turn d.way ≡ turn e.way = omega (arith, turn_low d.way, turn_low e.way) in
+      let turn_same : turn d.way ≡ turn e.way = omega (arith, turn_low) in
       let way_same : d.way ≡ e.way = cc (way_turn d.way, way_turn e.way) in
       let s = cell_once (wide l x) (high l x) l.patches (cell_of d is_d) (cell_of e is_e)
       (omega (arith, turn_low d.way, turn_low e.way)) in
@@ -96,8 +95,7 @@ module _ (l : Gluing) (x : Lengths) where
   number_from d is =
       let f : dart_number d / 4 ≡ cell_number d = omega (arith, turn_low d.way) in
       let k : dart_number d % 4 ≡ turn d.way = omega (arith, turn_low d.way) in
-      (λ t. corner (new_faces l x) (f t) (k t)) ∙ corner_is _ d.way (cell_low d is)
-      ∙ ap (λ (e : CellDart). vertex_number l x (dart_start l x e)) (dart_at d d.way is)
+      cc (corner_is _ d.way (cell_low d is), dart_at d d.way is)
 
   pub next_is : (d : CellDart) → IsDart l x d → IsDart l x (next d)
   next_is d is = record { patch_low = is.patch_low; i_low = is.i_low; j_low = is.j_low }
@@ -119,8 +117,6 @@ module _ (l : Gluing) (x : Lengths) where
     -- Each dart of the new faces is that of a cell.
     pub at_number : (n : ℕ) → n < darts (new_faces l x) → (d : CellDart) × IsDart l x d × (dart_number d ≡ n)
     at_number n low =
-        let f_low : n / 4 < face_count l x = omega (arith, faces_long) in (
-          dart_of l x (n / 4) (way_of (n % 4)),
-          cell_is (n / 4) (way_of (n % 4)) f_low,
-          omega (arith, (cell_here (wide l x) (high l x) l.patches (n / 4) f_low).1, turn_way (n % 4) (omega arith)),
-        )
+        let f_low : n / 4 < face_count l x = omega (arith, faces_long) in
+        let c = cell_here (wide l x) (high l x) l.patches (n / 4) f_low in
+        (dart_of l x (n / 4) (way_of (n % 4)), search (rules, cell_is), search (rules, turn_way))

@@ -1,9 +1,8 @@
 -- The points inside patches and along arcs are regular, and the vertex of a node has the same kind and as many faces in
 -- each model, whatever the lengths.
-use Rattle.std.proofs.Common.{◌≡◌, ◌≢◌, ◌⊎◌, ℕ, zero, suc, ◌+◌, ◌-◌, ◌<◌, true, false, not, Some, None, refl, sym, ◌∙◌}
-use Rattle.std.proofs.Common.{ap, subst, inl, inr, arith, ◌≤◌, Bool}
-use Rattle.std.proofs.lemmas.Bool.{cond-false, eq-eqb, false_from_ne_true, cases_eq, eqb-true}
-use Rattle.std.proofs.lemmas.Option.{none-some}
+use Rattle.std.proofs.Common.{rules, ◌≡◌, ◌≢◌, ◌⊎◌, ℕ, zero, suc, ◌+◌, ◌-◌, ◌<◌, true, false, not, Some, None, refl}
+use Rattle.std.proofs.Common.{sym, ◌∙◌, ap, subst, inl, inr, arith, ◌≤◌, Bool}
+use Rattle.std.proofs.lemmas.{Bool.cond-false, Bool.eq-eqb, Bool.cases_eq, Bool.eqb-true, Option.none-some}
 use Rattle.std.specs.Prelude.{◌==◌}
 use Rattle.def_mesh.specs.{Darts.darts, Darts.from_of, Darts.prev_of, Darts.twin_of, Darts.to_of}
 use Rattle.def_mesh.specs.{HalfEdges.IsQuadManifold, HalfEdges.AreTurned, HalfEdges.Turns, HalfEdges.half_edges}
@@ -11,7 +10,7 @@ use Rattle.def_mesh.specs.{Faces.Faces, Vertices.faces_at, Kinds.is_inner, Kinds
 use Rattle.def_layout.specs.Gluings.{south, east, north, west, Gluing, Slot, IsSlot, use_of, start_node, end_node}
 use Rattle.def_layout.specs.{Cells.CellDart, Cells.IsDart, Cells.dart, Cells.prev, Cells.slot_dart, Cells.next}
 use Rattle.def_layout.specs.{declared.tmesh.SideArc.SideArc, Surfaces.IsSurface, Surfaces.IsOtherSlot, Lengths.Lengths}
-use Rattle.def_layout.specs.{Lengths.AreLengths, Lengths.reach}
+use Rattle.def_layout.specs.{Lengths.AreLengths}
 use Rattle.def_written.specs.{Points.along, Points.inside, Points.IsPoint, Points.use_point, Points.Point, Points.node}
 use Rattle.def_written.specs.{NewFaces.dart_start}
 use Rattle.face_laws.proofs.FullCuts.{has_fan, inner_twin, cross_regular}
@@ -50,8 +49,7 @@ module _ (F : Faces) (laws : IsQuadManifold (half_edges F)) (d a : ℕ) (low : d
   edge_regular = eq-eqb _ _ (two ∙ sym (cond-false (is_inner F (from_of F d)) 4 2 boundary))
     where
       boundary : is_inner F (from_of F d) ≡ false
-      boundary = false_from_ne_true _ (λ inner.
-          let t = inner_twin F _ inner d low (inl refl) in none-some t.0 (cc (t.1)))
+      boundary = search (rules, inner_twin)
 
       pick : ℕ → ℕ
       pick zero = d
@@ -103,13 +101,7 @@ module _ {l : Gluing} {x : Lengths} {laid : IsSurface l} {len : AreLengths l x} 
     cell a,
     cell b,
     cell c,
-    record {
-      first = turn_twin m.is_dart i;
-      second = turn_twin i.is_dart j;
-      third = turn_twin j.is_dart k;
-      last = turn_twin k.is_dart m;
-      apart = λ e. apart (model.same d b m.is_dart j.is_dart e);
-    },
+    search (rules, turn_twin, model.same),
   )
 
   pub inside_regular : (p i j : ℕ) (e : CellDart) → IsPoint l x (inside p i j) → IsDart l x e
@@ -173,19 +165,7 @@ module _ {l : Gluing} {x : Lengths} (laid : IsSurface l) (len : AreLengths l x) 
         let at = spot_from l x laid len s in
         elim (use_sort l x (use_of l w) o s.low) [
           | inl (z, e) ↦
-              let first : IsSpot l x d w 0 b = rw z at s in (
-                w,
-                b,
-                record {
-                  is_slot = s.is_slot;
-                  start = cc;
-                  later = λ t. elim (cases_eq w.at 0) [
-                    | inl none ↦ absurd (omega (arith, first.behind t, ap (reach l x w.patch w.side) none))
-                    | inr more ↦ omega arith
-                  ];
-                },
-                first,
-              )
+              let first : IsSpot l x d w 0 b = rw z at s in (w, b, search (rules, first), first)
           | inr (some, e) ↦ absurd cc
         ]
   ]
@@ -193,10 +173,7 @@ module _ {l : Gluing} {x : Lengths} (laid : IsSurface l) (len : AreLengths l x) 
   node_spot : {n : ℕ} {w : Slot} {b : Bool} → IsNodeSpot l n w b
       → IsDart l x (spot_dart l x w 0 b) × IsSpot l x (spot_dart l x w 0 b) w 0 b
   node_spot {w} {b} s = spot_is l x laid len b s.is_slot (use_some l x laid.paved len w s.is_slot) (λ e.
-      elim (cases_eq (reach l x w.patch w.side w.at) 0) [
-        | inl z ↦ absurd (omega (arith, first_is l x laid.paved len w s.is_slot z, s.later e))
-        | inr some ↦ omega arith
-      ])
+      search (rules, first_is, s.later))
 
 module _ {l : Gluing} {x : Lengths} {laid : IsSurface l} {len : AreLengths l x} {F : Faces} {cell : CellDart → ℕ}
     (model : IsModel F l x laid len cell) where

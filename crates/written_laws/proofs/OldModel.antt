@@ -1,22 +1,21 @@
 -- A gluing that lies in a mesh is laid.
-use Rattle.std.proofs.Common.{◌≡◌, ℕ, ◌+◌, ◌-◌, ◌<◌, Bool, true, false, Some, refl, sym, ◌∙◌, ap, arith, inl, inr, ◌⊎◌}
-use Rattle.std.proofs.Common.{zero, suc, not, length, None, subst}
-use Rattle.std.proofs.{lemmas.Bool.cases_Bool, lemmas.Bool.cond-true, lemmas.Bool.cond-false, lemmas.Option.none-some}
+use Rattle.std.proofs.Common.{rules, ◌≡◌, ℕ, ◌-◌, ◌<◌, Bool, true, false, Some, refl, sym, ◌∙◌, ap, arith, inl, inr}
+use Rattle.std.proofs.Common.{◌⊎◌, zero, suc, not, length, None, subst}
+use Rattle.std.proofs.{lemmas.Bool.cases_Bool, lemmas.Bool.cond-false, lemmas.Option.none-some}
 use Rattle.def_mesh.specs.HalfEdges.{HalfEdges, IsQuadManifold, AreTurned, half_edges, Turns as MeshTurns}
 use Rattle.def_mesh.specs.{Faces.Faces, Faces.face_at, Manifold.IsManifold}
-use Rattle.def_layout.specs.Gluings.{Way, south, east, north, west, side_before, Gluing, Slot, IsSlot, AreReverse}
-use Rattle.def_layout.specs.Gluings.{use_of, use_before, slot_before, start_node, end_node}
+use Rattle.def_layout.specs.Gluings.{Way, south, west, side_before, Gluing, Slot, IsSlot, AreReverse, use_of}
+use Rattle.def_layout.specs.Gluings.{use_before, slot_before, start_node, end_node}
 use Rattle.def_layout.specs.{Cells.CellDart, Cells.dart, Cells.next, Cells.prev, Cells.slot_dart, Cells.IsDart}
 use Rattle.def_layout.specs.{Surfaces.HasWholeSides, Surfaces.IsSurface, Surfaces.IsOtherSlot, Lengths.Lengths}
 use Rattle.def_layout.specs.{Lengths.reach, Lengths.AreLengths, declared.tmesh.SideArc.SideArc, Embeddings.IsEmbedding}
 use Rattle.def_layout.specs.{Fans.IsTurn, Fans.SlotTurns, Fans.HasFans}
 use Rattle.written_laws.proofs.Borders.{spot_dart, at_is, before_is, IsSpot, spot_is, spot_from}
 use Rattle.written_laws.proofs.Courses.{IsAcross, across_or_alone, across_ends, rim_turn, IsAlone}
-use Rattle.written_laws.proofs.Fans.{IsTurning, before_related, alike_or_turned, point_related, rim_slot, before_spot}
-use Rattle.written_laws.proofs.Fans.{spot_once}
-use Rattle.written_laws.proofs.{Sides.use_some, Sides.use_begins, Rims.is_dart, Rims.inner_edge, Rims.over_at}
-use Rattle.written_laws.proofs.{Rims.next_prev, Rims.prev_next, NewDarts.prev_is, NewDarts.next_is, NodeKinds.node_sort}
-use Rattle.written_laws.proofs.{ModelCounts.IsModel}
+use Rattle.written_laws.proofs.{Fans.IsTurning, Fans.before_related, Fans.alike_or_turned, Fans.point_related}
+use Rattle.written_laws.proofs.{Fans.rim_slot, Fans.before_spot, Fans.spot_once, Sides.use_some, Sides.use_begins}
+use Rattle.written_laws.proofs.{Rims.inner_edge, Rims.over_at, Rims.next_prev, Rims.prev_next}
+use Rattle.written_laws.proofs.{NewDarts.prev_is, NewDarts.next_is, NodeKinds.node_sort, ModelCounts.IsModel}
 use Rattle.{def_written.specs.Edges.IsEdge, def_written.specs.NewFaces.dart_start, mesh_laws.proofs.Chains.manifold_law}
 
 module _ (m : HalfEdges) (laws : IsQuadManifold m) (l : Gluing) (x : Lengths) (paved : HasWholeSides l)
@@ -32,11 +31,7 @@ module _ (m : HalfEdges) (laws : IsQuadManifold m) (l : Gluing) (x : Lengths) (p
   pub over_twin : (w v : Slot) (o : ℕ) → IsSlot l w → IsOtherSlot l w v → o < x (use_of l w).arc
       → m.twin (cell (slot_dart l x w o)) ≡ Some (cell (slot_dart l x v (x (use_of l w).arc - 1 - o)))
   over_twin w v o is other less = elim (cases_Bool (use_of l w).forward) [
-    | inl e ↦
-        let back : (use_of l v).forward ≡ false = cc in
-        let place : o ≡ x (use_of l v).arc - 1 - (x (use_of l w).arc - 1 - o) = omega (arith, ap x other.1.arc) in
-        ap m.twin (s.ahead w o is less e ∙ (λ t. arc_dart (sym other.1.arc t) (place t)))
-        ∙ s.behind v _ other.0 k_low back
+    | inl e ↦ search rules
     | inr e ↦
         let on : (use_of l v).forward ≡ true = cc in
         let there = s.ahead v _ other.0 k_low on ∙ ap (λ a. arc_dart a (x (use_of l w).arc - 1 - o)) other.1.arc in
@@ -55,16 +50,9 @@ module _ (m : HalfEdges) (laws : IsQuadManifold m) (l : Gluing) (x : Lengths) (p
   -- Inside a patch the twin lies over the dart.
   within_twin : (p i j : ℕ) (w : Way) → IsEdge l x (inner_edge p i j w)
       → m.twin (cell (dart p i j w)) ≡ Some (cell (over_at p i j w))
-  within_twin p i j east h = s.east_of p i j h.0 h.2 h.3
-  within_twin p i j north h = s.north_of p i j h.0 h.1 h.3
-  within_twin p i j west h =
-      let e : i - 1 + 1 ≡ i = omega (arith, h.1) in
-      laws.twin_twin _ _ (s.low _ (is_dart p (i - 1) j east h.0 (omega (arith, h.2)) h.3))
-      (rw e at (s.east_of p (i - 1) j h.0 (omega (arith, h.1, h.2)) h.3))
-  within_twin p i j south h =
-      let e : j - 1 + 1 ≡ j = omega (arith, h.2) in
-      laws.twin_twin _ _ (s.low _ (is_dart p i (j - 1) north h.0 h.1 (omega (arith, h.3))))
-      (rw e at (s.north_of p i (j - 1) h.0 h.1 (omega (arith, h.2, h.3))))
+  within_twin p i j west h = search rules
+  within_twin p i j south h = search rules
+  within_twin p i j _ h = search (rules, s.east_of, s.north_of)
 
   pub from_turning : IsTurning l x AreFromOne
   from_turning = record {
@@ -89,8 +77,8 @@ module _ (m : HalfEdges) (laws : IsQuadManifold m) (l : Gluing) (x : Lengths) (p
       let less : x (use_of l w).arc - 1 < x (use_of l w).arc = omega (arith, some is) in
       elim (cases_Bool (use_of l w).forward) [
         | inl e ↦ (
-          cc (s.ahead w 0 is (some is) e, s.first_at a low, cond-true (use_of l w).forward (l.first a) (l.last a) e),
-          cc (s.ahead w (x a - 1) is less e, s.last_at a low, cond-true (use_of l w).forward (l.last a) (l.first a) e),
+          search (rules, s.ahead, s.first_at, some),
+          search (rules, s.ahead, s.last_at, some),
         )
         | inr e ↦
             let first : x (use_of l w).arc - 1 - 0 ≡ x (use_of l w).arc - 1 = omega arith in
@@ -112,11 +100,7 @@ module _ (m : HalfEdges) (laws : IsQuadManifold m) (l : Gluing) (x : Lengths) (p
   starts w is = (node_ends w is).0
 
   start_low : (u : SideArc) → u.arc < l.arcs → (start_node l u < l.nodes) × (end_node l u < l.nodes)
-  start_low u low = elim u.forward as (λ f. (start_node l (record { arc = u.arc; forward = f }) < l.nodes)
-      × (end_node l (record { arc = u.arc; forward = f }) < l.nodes)) [
-        | true ↦ (paved.first_low u.arc low, paved.last_low u.arc low)
-        | false ↦ (paved.last_low u.arc low, paved.first_low u.arc low)
-      ]
+  start_low u low = search rules
 
   once : (v w : Slot) → IsSlot l v → IsSlot l w → use_of l v ≡ use_of l w → v ≡ w
   once v w is_v is_w same = rim_slot paved len is_v is_w (some is_v) (some is_w)
@@ -155,20 +139,10 @@ module _ (m : HalfEdges) (laws : IsQuadManifold m) (l : Gluing) (x : Lengths) (p
         | inr off ↦ spot.dart ∙ ap (spot_dart l x w 0) off
       ] in
       let twin = over_twin b w o is_b (is, rev) o_low ∙ ap (λ k. Some (cell (slot_dart l x w k))) zero_is
-      ∙ ap (λ (d : CellDart). Some (cell d)) (sym here) ∙ ap Some (s.turned _) in
-      (laws.corners_differ _ (low_at b o is_b o_low)).1
-      (sym (laws.twin_ends _ _ (low_at b o is_b o_low) twin).1)
+      ∙ ap (λ (d : CellDart). Some (cell d)) (sym here) ∙ ap Some (s.turned _) in search (rules, low_at)
 
   pub laid_in : IsSurface l
-  laid_in = record {
-    paved = paved;
-    once = once;
-    forward = s.forward;
-    other = s.other;
-    reached = s.reached;
-    meet = meet;
-    no_fold = no_fold;
-  }
+  laid_in = search (rules, once, meet, no_fold)
 
 -- A mesh in which a gluing lies is a model of it at the old lengths, and the gluing has fans.
 
@@ -263,17 +237,7 @@ module _ (faces : Faces) (manifold : IsManifold faces) (l : Gluing) (x : Lengths
       (λ c e is_c is_e turn before. before ∙ turned_point c e is_c is_e turn) is_d refl t.0 e is_e t.1
 
   pub old_model : ((f : ℕ) → f < length faces → length (face_at faces f) ≡ 4) → IsModel faces l x old_laid len cell
-  old_model quads = record {
-    quads = quads;
-    low = s.low;
-    same = s.same;
-    onto = s.onto;
-    turned = λ d is. s.turned d;
-    alike = alike;
-    apart = apart;
-    across = across_twin;
-    alone = alone;
-  }
+  old_model quads = search (rules, alike, apart, across_twin, alone)
 
   -- A turn of the mesh at a node stays at a slot, or is a turn of the gluing.
   slot_turn : {d e : CellDart} {w u : Slot} {b c : Bool} → IsDart l x d → IsDart l x e → IsSpot l x d w 0 b

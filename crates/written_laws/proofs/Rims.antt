@@ -1,13 +1,13 @@
 -- The points of a patch: its sides, corners included, and its inside.
-use Rattle.std.proofs.Common.{◌≡◌, ℕ, ◌-◌, ◌<◌, ◌≤◌, sym, ◌∙◌, ap, inl, inr, arith, ◌≢◌, ◌⊎◌, ◌+◌, refl}
-use Rattle.std.proofs.lemmas.Bool.{cases_eq, cond-true, cond-false, eq-eqb, ne_eqb}
+use Rattle.std.proofs.Common.{rules, ◌≡◌, ℕ, ◌-◌, ◌<◌, ◌≤◌, sym, ◌∙◌, ap, inl, inr, arith, ◌≢◌, ◌⊎◌, ◌+◌, refl}
+use Rattle.std.proofs.lemmas.Bool.{cases_eq}
 use Rattle.def_layout.specs.Gluings.{south, east, north, west, Gluing, Way, side_after, side_before}
 use Rattle.def_layout.specs.{Lengths.Lengths, Lengths.wide, Lengths.high, Lengths.AreLengths, Lengths.size}
 use Rattle.def_layout.specs.{Surfaces.HasWholeSides, Surfaces.IsSurface, Cells.CellDart, Cells.IsDart, Cells.dart}
 use Rattle.def_layout.specs.{Cells.next, Cells.prev, Cells.dart_along}
 use Rattle.def_written.specs.{Points.inside, Points.side_point, Points.point, NewFaces.column, NewFaces.row}
 use Rattle.def_written.specs.{NewFaces.dart_start, NewFaces.dart_end, Edges.Edge, Edges.flat, Edges.steep, Edges.IsEdge}
-use Rattle.{std.specs.Prelude.◌==◌, written_laws.proofs.Sides.size_some, written_laws.proofs.Sides.corner_meets}
+use Rattle.{written_laws.proofs.Sides.size_some, written_laws.proofs.Sides.corner_meets}
 
 module _ (l : Gluing) (x : Lengths) (paved : HasWholeSides l) (len : AreLengths l x) where
   pub wide_some : (p : ℕ) → p < l.patches → 0 < wide l x p
@@ -19,9 +19,7 @@ module _ (l : Gluing) (x : Lengths) (paved : HasWholeSides l) (len : AreLengths 
 module _ (l : Gluing) (x : Lengths) (laid : IsSurface l) (len : AreLengths l x) where
   pub point_north : (p i : ℕ) {j : ℕ} → p < l.patches → j ≡ high l x p
       → point l x p i j ≡ side_point l x p north (wide l x p - i)
-  point_north p i {j} low e =
-      let some = high_some l x laid.paved len p low in
-      cond-false (j == 0) _ _ (ne_eqb j 0 (λ z. omega arith)) ∙ cond-true (j == high l x p) _ _ (eq-eqb j _ e)
+  point_north p i {j} low e = search (rules, high_some)
 
   pub point_west : (p j : ℕ) → p < l.patches → j ≤ high l x p → point l x p 0 j ≡ side_point l x p west (high l x p - j)
   point_west p j low le = elim (cases_eq j 0) [
@@ -29,8 +27,7 @@ module _ (l : Gluing) (x : Lengths) (laid : IsSurface l) (len : AreLengths l x) 
     | inr some ↦ elim (cases_eq j (high l x p)) [
       | inl e ↦ point_north p 0 low e ∙ corner_meets l x laid len p north (wide l x p - 0) low
           (omega (arith, len.across p low)) ∙ ap (side_point l x p west) (omega arith)
-      | inr less ↦
-          cond-false (j == 0) _ _ (ne_eqb j 0 some) ∙ cond-false (j == high l x p) _ _ (ne_eqb j (high l x p) less)
+      | inr less ↦ search rules
     ]
   ]
 
@@ -41,16 +38,12 @@ module _ (l : Gluing) (x : Lengths) (laid : IsSurface l) (len : AreLengths l x) 
     | inr some ↦ elim (cases_eq j (high l x p)) [
       | inl e ↦ point_north p i low e ∙ ap (side_point l x p north) (omega arith)
           ∙ sym (corner_meets l x laid len p east j low (omega (arith, len.upright p low)))
-      | inr less ↦ cond-false (j == 0) _ _ (ne_eqb j 0 some) ∙ cond-false (j == high l x p) _ _ (ne_eqb j (high l x p)
-          less) ∙ cond-false (i == 0) _ _ (ne_eqb i 0 (λ z. omega (arith, wide_some l x laid.paved len p low)))
-          ∙ cond-true (i == wide l x p) _ _ (eq-eqb i (wide l x p) wide_i)
+      | inr less ↦ search (rules, wide_some)
     ]
   ]
 
   pub point_inside : (p i j : ℕ) → 0 < i → i < wide l x p → 0 < j → j < high l x p → point l x p i j ≡ inside p i j
-  point_inside p i j i_some i_low j_some j_low = cond-false (j == 0) _ _ (ne_eqb j 0 (λ z. omega arith)) ∙ cond-false
-      (j == high l x p) _ _ (ne_eqb j (high l x p) (λ z. omega arith)) ∙ cond-false (i == 0) _ _
-      (ne_eqb i 0 (λ z. omega arith)) ∙ cond-false (i == wide l x p) _ _ (ne_eqb i (wide l x p) (λ z. omega arith))
+  point_inside p i j i_some i_low j_some j_low = search rules
 
 -- The border darts of a patch, and the darts inside.
 
@@ -121,13 +114,7 @@ IsWithin l x d = IsEdge l x (inner_edge d.patch d.i d.j d.way)
 
 module _ {l : Gluing} {x : Lengths} (paved : HasWholeSides l) (len : AreLengths l x) where
   pub rim_is : (p : ℕ) (s : Way) (t : ℕ) → p < l.patches → t < size l x p s → IsDart l x (dart_along l x p s t)
-  rim_is p south t low less = record { patch_low = low; i_low = less; j_low = high_some l x paved len p low }
-  rim_is p east t low less =
-      is_dart p _ t east low (omega (arith, wide_some l x paved len p low)) (omega (arith, len.upright p low))
-  rim_is p north t low less = is_dart p _ _ north low (omega (arith, wide_some l x paved len p low))
-      (omega (arith, high_some l x paved len p low))
-  rim_is p west t low less =
-      is_dart p 0 _ west low (wide_some l x paved len p low) (omega (arith, high_some l x paved len p low))
+  rim_is p s h1 h2 = search (rules, high_some, wide_some)
 
   pub rim_patch : (p : ℕ) (s : Way) (t : ℕ) → (dart_along l x p s t).patch ≡ p
   rim_patch p = elim [ south ↦ λ t. refl | east ↦ λ t. refl | north ↦ λ t. refl | west ↦ λ t. refl ]
@@ -136,33 +123,12 @@ module _ {l : Gluing} {x : Lengths} (paved : HasWholeSides l) (len : AreLengths 
   rim_grid : (p : ℕ) (s : Way) (t : ℕ) → p < l.patches → t < size l x p s → (column_of (dart_along l x p s t) ≡
       side_column l x p s t) × (row_of (dart_along l x p s t) ≡ side_row l x p s t) × (column_of (next (dart_along l x p
       s t)) ≡ side_column l x p s (t + 1)) × (row_of (next (dart_along l x p s t)) ≡ side_row l x p s (t + 1))
-  rim_grid p south t low less = (refl, refl, refl, refl)
-  rim_grid p east t low less = let some = wide_some l x paved len p low in (omega arith, refl, omega arith, refl)
-  rim_grid p north t low less =
-      let some = high_some l x paved len p low in
-      let same = len.across p low in
-      (omega arith, omega arith, omega arith, omega arith)
-  rim_grid p west t low less = (refl, omega arith, refl, omega arith)
+  rim_grid p s h1 h2 = search (rules, wide_some, high_some)
 
   -- The border dart next to the last one of a side is the first one of the next side.
   pub corner_next : (p : ℕ) (s : Way) (t : ℕ) → p < l.patches → t + 1 ≡ size l x p s → next (dart_along l x p s t)
       ≡ dart_along l x p (side_after s) 0
-  corner_next p south t low e = dart_is p east (omega arith) refl
-  corner_next p east t low e = dart_is p north (omega arith) (omega (arith, len.upright p low))
-  corner_next p north t low e = dart_is p west (omega (arith, len.across p low)) (omega arith)
-  corner_next p west t low e = dart_is p south refl (omega arith)
-
-  -- A cell with two border darts in a row lies at the corner of its patch.
-  pub corner_cell : (p : ℕ) (s : Way) (t u : ℕ) → p < l.patches → t < size l x p s → u < size l x p (side_after s)
-      → (dart_along l x p s t).i ≡ (dart_along l x p (side_after s) u).i
-      → (dart_along l x p s t).j ≡ (dart_along l x p (side_after s) u).j → (t + 1 ≡ size l x p s) × (u ≡ 0)
-  corner_cell p south t u low t_low u_low i j = (omega arith, sym j)
-  corner_cell p east t u low t_low u_low i j = (omega (arith, len.upright p low), omega (arith, len.across p low))
-  corner_cell p north t u low t_low u_low i j = (omega (arith, len.across p low), omega arith)
-  corner_cell p west t u low t_low u_low i j = (omega arith, sym i)
-
-  pub rim_way : (p : ℕ) (s : Way) (t : ℕ) → (dart_along l x p s t).way ≡ s
-  rim_way p = elim [ south ↦ λ t. refl | east ↦ λ t. refl | north ↦ λ t. refl | west ↦ λ t. refl ]
+  corner_next p s h1 h2 = search rules
 
   -- A grid point inside.
   pub record IsInner (p a b : ℕ) : Type 0 where
@@ -176,67 +142,41 @@ module _ {l : Gluing} {x : Lengths} (paved : HasWholeSides l) (len : AreLengths 
       ⊎ ((s : Way) × (t : ℕ) × (t < size l x p s) × (dart p i j w ≡ dart_along l x p s t))
   on_rim p i j south d = elim (cases_eq j 0) [
     | inl z ↦ inr (south, i, d.i_low, dart_is p south refl z)
-    | inr some ↦ inl (d.patch_low, d.i_low, omega arith, d.j_low)
+    | inr some ↦ inl (search rules)
   ]
   on_rim p i j east d = elim (cases_eq (i + 1) (wide l x p)) [
     | inl z ↦ inr (east, j, omega (arith, len.upright p d.patch_low), dart_is p east (omega arith) refl)
-    | inr some ↦ inl (d.patch_low, omega arith, omega arith, d.j_low)
+    | inr some ↦ inl (search rules)
   ]
   on_rim p i j north d = elim (cases_eq (j + 1) (high l x p)) [
-    | inl z ↦
-        let low = len.across p d.patch_low in
-        inr (north, wide l x p - 1 - i, omega arith, dart_is p north (omega arith) (omega arith))
-    | inr some ↦ inl (d.patch_low, d.i_low, omega arith, omega arith)
+    | inl z ↦ inr (north, wide l x p - 1 - i, search (rules, len.across), search (rules, dart_is, len.across))
+    | inr some ↦ inl (search rules)
   ]
   on_rim p i j west d = elim (cases_eq i 0) [
     | inl z ↦ inr (west, high l x p - 1 - j, omega arith, dart_is p west z (omega arith))
-    | inr some ↦ inl (d.patch_low, omega arith, d.i_low, d.j_low)
+    | inr some ↦ inl (search rules)
   ]
-
-  -- Over a dart inside lies one that runs along the same edge.
-  pub over_dart : (p i j : ℕ) (w : Way) → IsEdge l x (inner_edge p i j w) → IsDart l x (over_at p i j w) × (inner_edge
-      (over_at p i j w).patch (over_at p i j w).i (over_at p i j w).j (over_at p i j w).way ≡ inner_edge p i j w)
-  over_dart p i j south h = (is_dart p i (j - 1) north h.0 h.1 (omega (arith, h.3)), ap (flat p i) (omega (arith, h.2)))
-  over_dart p i j east h = (is_dart p (i + 1) j west h.0 h.2 h.3, refl)
-  over_dart p i j north h = (is_dart p i (j + 1) south h.0 h.1 h.3, refl)
-  over_dart p i j west h =
-      (is_dart p (i - 1) j east h.0 (omega (arith, h.2)) h.3, ap (λ n. steep p n j) (omega (arith, h.1)))
 
   -- The dart inside that ends at a place of a side, and over it the one next to the border dart before.
   pub rim_within : (p : ℕ) (s : Way) (t : ℕ) → p < l.patches → 0 < t → t < size l x p s → IsWithin l x (prev (dart_along
       l x p s t)) × (over (prev (dart_along l x p s t)) ≡ next (dart_along l x p s (t - 1)))
-  rim_within p south t low some less = ((low, some, less, high_some l x paved len p low), refl)
-  rim_within p east t low some less =
-      ((low, omega (arith, wide_some l x paved len p low), some, omega (arith, len.upright p low)), refl)
-  rim_within p north t low some less =
-      let wide_is = len.across p low in
-      let high_more = high_some l x paved len p low in
-      ((low, omega arith, omega arith, omega arith), dart_is p west (omega arith) refl)
-  rim_within p west t low some less =
-      ((low, wide_some l x paved len p low, omega arith, omega arith), dart_is p south refl (omega arith))
+  rim_within p s h1 h2 h3 = search (rules, high_some, wide_some)
 
   -- Where the dart next to a border dart lies inside, the side goes on.
   pub rim_ahead : (p : ℕ) (s : Way) (t : ℕ) → p < l.patches → t < size l x p s
       → IsWithin l x (next (dart_along l x p s t)) → t + 1 < size l x p s
-  rim_ahead p south t low less i = i.2
-  rim_ahead p east t low less i = omega (arith, len.upright p low, i.3)
-  rim_ahead p north t low less i = omega (arith, len.across p low, i.1)
-  rim_ahead p west t low less i = omega (arith, i.2)
+  rim_ahead p s h1 h2 h3 = search rules
 
   -- Two darts inside in a row meet at a grid point inside.
   pub inner_at : (p i j : ℕ) (w : Way) → IsEdge l x (inner_edge p i j w) → IsEdge l x (inner_edge p i j (side_before w))
       → IsInner p (column i w) (row j w)
-  inner_at p i j south h k = record { a_some = k.1; a_low = k.2; b_some = h.2; b_low = h.3 }
-  inner_at p i j east h k = record { a_some = h.1; a_low = h.2; b_some = k.2; b_low = k.3 }
-  inner_at p i j north h k = record { a_some = k.1; a_low = k.2; b_some = h.2; b_low = h.3 }
-  inner_at p i j west h k = record { a_some = h.1; a_low = h.2; b_some = k.2; b_low = k.3 }
+  inner_at p i j w h1 h2 = search rules
 
 module _ (l : Gluing) (x : Lengths) (laid : IsSurface l) (len : AreLengths l x) where
   pub border_point : (p : ℕ) (s : Way) (t : ℕ) → p < l.patches → t ≤ size l x p s
       → point l x p (side_column l x p s t) (side_row l x p s t) ≡ side_point l x p s t
   border_point p south t low le = refl
-  border_point p east t low le =
-      point_east l x laid len p {i = wide l x p} t low refl (omega (arith, len.upright p low))
+  border_point p east t low le = search (rules, point_east)
   border_point p north t low le = point_north l x laid len p _ {j = high l x p} low refl
       ∙ ap (side_point l x p north) (omega (arith, len.across p low))
   border_point p west t low le =
@@ -244,12 +184,9 @@ module _ (l : Gluing) (x : Lengths) (laid : IsSurface l) (len : AreLengths l x) 
 
   pub rim_from : (p : ℕ) (s : Way) (t : ℕ) → p < l.patches → t < size l x p s
       → dart_start l x (dart_along l x p s t) ≡ side_point l x p s t
-  rim_from p s t low less =
-      let r = rim_grid laid.paved len p s t low less in
-      (λ k. point l x (rim_patch laid.paved len p s t k) (r.0 k) (r.1 k)) ∙ border_point p s t low (omega arith)
+  rim_from p s t low less = search (rules, rim_grid, rim_patch, border_point)
 
   pub rim_to : (p : ℕ) (s : Way) (t : ℕ) → p < l.patches → t < size l x p s
       → dart_end l x (dart_along l x p s t) ≡ side_point l x p s (t + 1)
   rim_to p s t low less =
-      let r = rim_grid laid.paved len p s t low less in
-      (λ k. point l x (rim_patch laid.paved len p s t k) (r.2 k) (r.3 k)) ∙ border_point p s (t + 1) low (omega arith)
+      let r = rim_grid laid.paved len p s t low less in search (rules, rim_patch, border_point)

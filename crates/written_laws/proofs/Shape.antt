@@ -1,17 +1,17 @@
 -- The new mesh has the shape of the old one, and the old one doubles no edge.
-use Rattle.std.proofs.Common.{◌≡◌, ℕ, ◌<◌, ◌≤◌, Bool, false, cond, not, ◌&&◌, refl, sym, ◌∙◌, ap, inl, inr, arith}
+use Rattle.std.proofs.Common.{rules, ◌≡◌, ℕ, ◌<◌, ◌≤◌, Bool, false, cond, not, ◌&&◌, refl, sym, ◌∙◌, ap, inl, inr}
+use Rattle.std.proofs.Common.{arith}
 use Rattle.def_mesh.specs.declared.Kind.TheVariants.{Regular, Singular, Corner, Reflex}
 use Rattle.def_mesh.specs.{Faces.Faces, Darts.from_of, Manifold.IsManifold, Vertices.faces_at, Vertices.vertex_count}
-use Rattle.def_mesh.specs.{Kinds.is_inner, Kinds.is_regular, Kinds.kind_of, HalfEdges.half_edges}
-use Rattle.def_mesh.specs.{HalfEdges.IsQuadManifold, declared.Kind.Kind}
+use Rattle.def_mesh.specs.{Kinds.is_inner, Kinds.is_regular, HalfEdges.half_edges, HalfEdges.IsQuadManifold}
+use Rattle.def_mesh.specs.{declared.Kind.Kind}
 use Rattle.def_layout.specs.{Cells.CellDart, Cells.IsDart, Cells.next, Gluings.Gluing, Gluings.use_of}
 use Rattle.def_layout.specs.{Surfaces.HasWholeSides, Surfaces.IsSurface, Fans.HasFans, Lengths.Lengths}
 use Rattle.def_layout.specs.{Lengths.AreLengths, Embeddings.IsEmbedding}
-use Rattle.def_written.specs.Laws.{LiesInMesh, LaidLaw, NumbersLaw, NewManifoldLaw, KeepsShapeLaw, ThreeLaw}
-use Rattle.def_written.specs.Laws.{MultipleLaw}
-use Rattle.def_written.specs.{Points.Point, Points.node, Points.along, Points.inside, Points.IsPoint}
-use Rattle.def_written.specs.{Numbers.vertex_number, Numbers.vertices, NewFaces.dart_start, NewFaces.new_faces}
-use Rattle.def_written.specs.{Edges.IsEdge, Edges.IsUndoubled, Shape.IsKeptNode, Shape.KeepsShape}
+use Rattle.def_written.specs.{Laws.LiesInMesh, Laws.LaidLaw, Laws.NumbersLaw, Laws.NewManifoldLaw, Laws.KeepsShapeLaw}
+use Rattle.def_written.specs.{Laws.ThreeLaw, Laws.MultipleLaw, Points.Point, Points.node, Points.along, Points.inside}
+use Rattle.def_written.specs.{Points.IsPoint, Numbers.vertex_number, Numbers.vertices, NewFaces.dart_start}
+use Rattle.def_written.specs.{NewFaces.new_faces, Edges.IsEdge, Edges.IsUndoubled, Shape.IsKeptNode, Shape.KeepsShape}
 use Rattle.mesh_laws.proofs.{Chains.manifold_law, Flood.count_least}
 use Rattle.written_laws.proofs.Courses.{Course, course, against, against_twice, against_ends, start_at, end_at}
 use Rattle.written_laws.proofs.Courses.{course_of, course_from, course_to, edge_dart}
@@ -42,19 +42,19 @@ module _ {faces : Faces} (man : IsManifold faces) {l : Gluing} {x : Lengths} (pa
         elim (alike_or_turned k.ahead (course_of l x e).ahead) [
           | inl ways ↦
               let b : course_of l x e ≡ k = λ t. course (edge t) (sym ways t) in
-              let from = model.alike d e is_d is_e (course_from l x here len d is_d ∙ starts ∙ ap (start_at l x) (sym b)
-              ∙ sym (course_from l x here len e is_e)) in
+              let from = model.alike d e is_d is_e
+              (cc (course_from l x here len d is_d, course_from l x here len e is_e)) in
               let to = model.alike (next d) (next e) (next_is l x d is_d) (next_is l x e is_e)
-              (course_to l x here len d is_d ∙ ends ∙ ap (end_at l x) (sym b) ∙ sym (course_to l x here len e is_e)) in
+              (cc (course_to l x here len d is_d, course_to l x here len e is_e)) in
               ap (course_of l x) (model.same d e is_d is_e (man.edges_once (cell d) (cell e) (model.low d is_d)
               (model.low e is_e) (from, cc (model.turned d is_d, model.turned e is_e)))) ∙ b
           | inr ways ↦
               let b : course_of l x e ≡ against k = λ t. course (edge t) (ways t) in
               let k_ends = against_ends l x k in
-              let to = model.alike e (next d) is_e (next_is l x d is_d) (course_from l x here len e is_e
-              ∙ ap (start_at l x) b ∙ k_ends.0 ∙ sym ends ∙ sym (course_to l x here len d is_d)) in
-              let from = model.alike (next e) d (next_is l x e is_e) is_d (course_to l x here len e is_e
-              ∙ ap (end_at l x) b ∙ k_ends.1 ∙ sym starts ∙ sym (course_from l x here len d is_d)) in
+              let to = model.alike e (next d) is_e (next_is l x d is_d)
+              (cc (course_from l x here len e is_e, course_to l x here len d is_d)) in
+              let from = model.alike (next e) d (next_is l x e is_e) is_d
+              (cc (course_to l x here len e is_e, course_from l x here len d is_d)) in
               let twin = (manifold_law faces man).twin_found (cell d) (cell e) (model.low d is_d) (model.low e is_e)
               (cc (model.turned d is_d)) (cc (model.turned e is_e)) in
               let a = twin_is_across faces man l x paved len cell vertex arc_dart s d e is_d is_e twin in
@@ -72,8 +72,7 @@ module _ {faces : Faces} (man : IsManifold faces) {l : Gluing} {x : Lengths} (pa
               let a : course_of l x d ≡ against c = λ t. course (edge t) (ways t) in
               let c_ends = against_ends l x c in
               let k_ends = against_ends l x k in
-              let same = tell (against k) is_d is_k (ap (start_at l x) a ∙ c_ends.0 ∙ ends ∙ sym k_ends.0)
-              (ap (end_at l x) a ∙ c_ends.1 ∙ starts ∙ sym k_ends.1) in
+              let same = tell (against k) is_d is_k (cc) (cc) in
               sym (against_twice c) ∙ ap against (sym a ∙ same) ∙ against_twice k
         ])
 
@@ -81,10 +80,6 @@ module _ {faces : Faces} (man : IsManifold faces) {l : Gluing} {x : Lengths} (pa
 kind_by : (inner : Bool) (many : ℕ) → Kind
 kind_by inner many =
     cond (many == cond inner 4 2) Regular (cond inner Singular (cond (not inner && (many == 1)) Corner Reflex))
-
-kind_is : (F : Faces) (v : ℕ) → kind_of F v ≡ kind_by (is_inner F v) (faces_at F v)
-unfolding kind_by
-kind_is F v = refl
 
 module _ {l : Gluing} {x : Lengths} {laid : IsSurface l} {len : AreLengths l x} {F : Faces} {cell : CellDart → ℕ}
     (model : IsModel F l x laid len cell) (laws : IsQuadManifold (half_edges F)) where
@@ -138,14 +133,10 @@ module _ {faces : Faces} {l : Gluing} {x : Lengths} {vertex : ℕ → ℕ} (lies
         let no_less = faces_le (new_node n low) (node_vertex n low) in omega arith
 
     same_inner : (n : ℕ) → n < l.nodes → is_inner (new_faces l y) n ≡ is_inner faces (vertex n)
-    same_inner n low = same_test _ _ (inner_to (new_node n low) (node_vertex n low))
-        (inner_to (node_vertex n low) (new_node n low))
+    same_inner n low = search (rules, same_test, inner_to, new_node, node_vertex)
 
     kept : (n : ℕ) → n < l.nodes → IsKeptNode faces (new_faces l y) vertex n
-    kept n low = record {
-      kind = kind_is _ n ∙ (λ t. kind_by (same_inner n low t) (same_faces n low t)) ∙ sym (kind_is faces _);
-      faces = same_faces n low;
-    }
+    kept n low = search (rules, same_inner, same_faces)
 
     irregular : (v : ℕ) → v < vertex_count faces → is_regular faces v ≡ false
         → (n : ℕ) × (n < l.nodes) × (vertex n ≡ v) × IsKeptNode faces (new_faces l y) vertex n
@@ -167,9 +158,8 @@ module _ {faces : Faces} {l : Gluing} {x : Lengths} {vertex : ℕ → ℕ} (lies
     regular v low off =
         let a = point_onto l y v (omega (arith, low, below)) in
         let d = point_dart l y the_laid lon a.0 a.1 in
-        let vertex_is = number_from l y d.0 d.1 ∙ ap (vertex_number l y) d.2 ∙ a.2 in
-        let n = irregular_node new_is (manifold_law _ new_manifold) d.0 d.1 (cc) in
-        let e = sym (ap (vertex_number l y) n.2) ∙ ap (vertex_number l y) d.2 ∙ a.2 in
+        let n = irregular_node new_is (manifold_law _ new_manifold) d.0 d.1 (cc (number_from l y d.0 d.1)) in
+        let e : n.0 ≡ v = cc (ap (vertex_number l y) n.2) in
         let v_low : v < l.nodes = omega arith in
         (v_low, (λ t. (sym (same_faces v v_low) t) == cond (sym (same_inner v v_low) t) 4 2) ∙ off)
 

@@ -1,7 +1,6 @@
 -- The points on a side of a patch.
-use Rattle.std.proofs.Common.{◌≡◌, ◌⊎◌, ℕ, suc, ◌+◌, ◌-◌, ◌<◌, ◌≤◌, true, false, cond, refl, ◌∙◌, ap, inl, inr, arith}
-use Rattle.std.proofs.lemmas.Bool.{cases_eq, cases_lt, cond-true, cond-false, eq-eqb, ne_eqb}
-use Rattle.std.specs.Prelude.{◌==◌}
+use Rattle.std.proofs.Common.{rules, ◌≡◌, ◌⊎◌, ℕ, suc, ◌+◌, ◌-◌, ◌<◌, ◌≤◌, cond, ap, inl, inr, arith}
+use Rattle.std.proofs.lemmas.Bool.{cases_eq, cases_lt}
 use Rattle.def_layout.specs.Gluings.{Way, south, east, north, west, side_after, Gluing, Slot, IsSlot, use_of}
 use Rattle.def_layout.specs.Gluings.{start_node, end_node}
 use Rattle.def_layout.specs.{Lengths.Lengths, Lengths.reach, Lengths.size, Lengths.AreLengths}
@@ -16,43 +15,26 @@ slot p s m = record { patch = p; side = s; at = m }
 module _ (l : Gluing) (x : Lengths) where
   -- The points of an arc.
   pub arc_last : (a k : ℕ) → k ≡ x a → 0 < k → arc_point l x a k ≡ node (l.last a)
-  arc_last a k e some =
-      cond-false (k == 0) _ _ (ne_eqb k 0 (λ z. omega arith)) ∙ cond-true (k == x a) _ _ (eq-eqb k (x a) e)
+  arc_last a k e some = search rules
 
   pub arc_inner : (a k : ℕ) → 0 < k → k < x a → arc_point l x a k ≡ along a k
-  arc_inner a k some less = cond-false (k == 0) _ _ (ne_eqb k 0 (λ z. omega arith))
-      ∙ cond-false (k == x a) _ _ (ne_eqb k (x a) (λ e. omega arith))
+  arc_inner a k some less = search rules
 
   -- An arc in use begins and ends at nodes.
   pub use_begins : (u : SideArc) → 0 < x u.arc → use_point l x u 0 ≡ node (start_node l u)
-  use_begins u some = elim u.forward as (λ b. use_point l x (record { arc = u.arc; forward = b }) 0
-      ≡ node (start_node l (record { arc = u.arc; forward = b }))) [
-        | true ↦ refl
-        | false ↦ arc_last u.arc (x u.arc - 0) (omega arith) (omega arith)
-      ]
+  use_begins u some = search rules
 
   pub use_ends : (u : SideArc) (o : ℕ) → o ≡ x u.arc → 0 < o → use_point l x u o ≡ node (end_node l u)
-  use_ends u o e some = elim u.forward as (λ b. use_point l x (record { arc = u.arc; forward = b }) o
-      ≡ node (end_node l (record { arc = u.arc; forward = b }))) [
-        | true ↦ arc_last u.arc o e some
-        | false ↦ let z : x u.arc - o ≡ 0 = omega arith in ap (arc_point l x u.arc) z
-      ]
+  use_ends u o e some = search rules
 
   pub use_inner : (u : SideArc) (o : ℕ) → 0 < o → o < x u.arc
       → use_point l x u o ≡ along u.arc (cond u.forward o (x u.arc - o))
-  use_inner u o some less = elim u.forward as (λ b. use_point l x (record { arc = u.arc; forward = b }) o
-      ≡ along u.arc (cond b o (x u.arc - o))) [
-        | true ↦ arc_inner u.arc o some less
-        | false ↦ arc_inner u.arc _ (omega arith) (omega arith)
-      ]
+  use_inner u o some less = search rules
 
   -- A point before the end of an arc in use is the node where it begins, or lies along it.
   pub use_sort : (u : SideArc) (o : ℕ) → o < x u.arc → ((o ≡ 0) × (use_point l x u o ≡ node (start_node l u)))
       ⊎ ((0 < o) × (use_point l x u o ≡ along u.arc (cond u.forward o (x u.arc - o))))
-  use_sort u o less = elim (cases_eq o 0) [
-    | inl z ↦ inl (z, ap (use_point l x u) z ∙ use_begins u (omega arith))
-    | inr some ↦ inr (omega arith, use_inner u o (omega arith) less)
-  ]
+  use_sort u o less = search rules
 
   -- How long the arc at a place of a side is.
   abbrev pub long_at : (patch : ℕ) (side : Way) (at : ℕ) → ℕ
@@ -65,10 +47,7 @@ module _ (l : Gluing) (x : Lengths) where
 
   pub side_in : {w : Slot} (o : ℕ) → IsSlot l w → o < x (use_of l w).arc
       → side_point l x w.patch w.side (reach l x w.patch w.side w.at + o) ≡ use_point l x (use_of l w) o
-  side_in {w} o is less =
-      let t = reach l x w.patch w.side w.at + o in
-      ap (λ m. use_point l x (l.use_at w.patch w.side m) (t - reach l x w.patch w.side m)) (over_is w o is less)
-      ∙ ap (use_point l x (use_of l w)) (omega arith)
+  side_in {w} o is less = search (rules, over_is)
 
   -- A place of a side lies within the arc of a slot.
   pub record IsOn (p : ℕ) (s : Way) (t m o : ℕ) : Type 0 where
@@ -99,9 +78,7 @@ module _ (l : Gluing) (x : Lengths) where
     -- The last arc of a side ends where the side does.
     pub last_reach : (p : ℕ) (s : Way) → p < l.patches
         → reach l x p s (l.many p s - 1) + long_at p s (l.many p s - 1) ≡ size l x p s
-    last_reach p s low =
-        let e : suc (l.many p s - 1) ≡ l.many p s = omega (arith, paved.sides_full p s low) in
-        ap (reach l x p s) e
+    last_reach p s low = search rules
 
     pub size_some : (p : ℕ) (s : Way) → p < l.patches → 0 < size l x p s
     size_some p s low = omega (arith, last_reach p s low, use_some (slot p s (l.many p s - 1)) (last_slot p s low))
@@ -112,9 +89,7 @@ module _ (l : Gluing) (x : Lengths) where
         let long : reach l x p s (l.many p s - 1) + long_at p s (l.many p s - 1) ≡ size l x p s = last_reach p s low in
         let some : 0 < long_at p s (l.many p s - 1) = use_some (slot p s (l.many p s - 1)) (last_slot p s low) in
         let over = run_last (reach l x p s) (l.many p s) t (paved.sides_full p s low) (omega (arith, long, e)) in
-        ap (λ m. use_point l x (l.use_at p s m) (t - reach l x p s m)) over
-        ∙ use_ends (l.use_at p s (l.many p s - 1)) (t - reach l x p s (l.many p s - 1)) (omega (arith, long, e))
-        (omega (arith, long, e, some))
+        search rules
 
     -- The slot at the beginning of a side is its first one.
     pub first_is : (v : Slot) → IsSlot l v → reach l x v.patch v.side v.at ≡ 0 → v.at ≡ 0

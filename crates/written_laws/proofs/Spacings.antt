@@ -1,11 +1,9 @@
 -- Laws of runs laid end to end.
-use Rattle.std.proofs.Common.{◌≡◌, ℕ, zero, suc, ◌+◌, ◌-◌, ◌*◌, ◌/◌, ◌%◌, ◌<◌, ◌≤◌, sym, ◌∙◌, ap, inl, inr, arith, Bool}
-use Rattle.std.proofs.Common.{true, false, refl, ◌⊎◌, mul-add, [], ◌≢◌, cond, ◌∷◌, length}
-use Rattle.std.proofs.lemmas.Bool.{cases_eq, cond_both, cond-true, cond-false, ltb-true, ltb-false, lt-ltb, le-ltb}
-use Rattle.std.proofs.lemmas.Bool.{eq-eqb, eqb-false, eqb-true, ne_eqb, cases_Bool}
+use Rattle.std.proofs.Common.{rules, ◌≡◌, ℕ, zero, suc, ◌+◌, ◌-◌, ◌*◌, ◌/◌, ◌%◌, ◌<◌, ◌≤◌, sym, ◌∙◌, ap, inl, inr}
+use Rattle.std.proofs.Common.{arith, Bool, true, false, refl, ◌⊎◌, [], ◌≢◌, cond, ◌∷◌, length}
+use Rattle.std.proofs.lemmas.Bool.{cases_eq, cond_both, cond-false, ltb-true, eqb-false, eqb-true, ne_eqb, cases_Bool}
 use Rattle.std.proofs.Math.Nat.{mod-lt, div-lt_iff_lt-mul, mul_comm, le-div_iff_mul-le}
-use Rattle.std.proofs.lemmas.Nat.{mul-add-lt, same_from_place, div-add-mod', div-mul-add, mul-le}
-use Rattle.std.proofs.lemmas.List.{length-append}
+use Rattle.std.proofs.lemmas.{Nat.mul-add-lt, Nat.same_from_place, Nat.div-mul-add, Nat.mul-le, List.length-append}
 use Rattle.std.specs.{Prelude.nat_lt, Prelude.◌==◌, List.filter, List.range_with_len}
 use Rattle.sum_laws.proofs.Sums.{count_below_ones, count_below_same}
 use Rattle.def_layout.specs.{Gluings.Gluing, Lengths.Lengths, Lengths.AreLengths}
@@ -25,41 +23,31 @@ count_rises f a (suc b) le = elim (cases_eq a (suc b)) [
 -- Where there are runs, one of them is found.
 pub run_low : (start : ℕ → ℕ) (n t : ℕ) → 0 < n → run_at start n t < n
 run_low start zero t l = absurd (omega arith)
-run_low start (suc zero) t l = cond_both (nat_lt t (start zero)) (run_at start zero t) zero (λ k. k < suc zero)
-    (λ e. omega arith) (λ e. omega arith)
-run_low start (suc (suc n)) t l = cond_both (nat_lt t (start (suc n))) (run_at start (suc n) t) (suc n)
-    (λ k. k < suc (suc n)) (λ e. omega (arith, run_low start (suc n) t (omega arith))) (λ e. omega arith)
+run_low start (suc zero) t l = search rules
+run_low start (suc (suc n)) t l = search (rules, run_low start (suc n) t (omega arith))
 
 -- It begins at or before the place.
 pub run_from : (start : ℕ → ℕ) (n t : ℕ) → start 0 ≤ t → start (run_at start n t) ≤ t
 run_from start zero t l = l
-run_from start (suc n) t l = cond_both (nat_lt t (start n)) (run_at start n t) n (λ k. start k ≤ t)
-    (λ e. run_from start n t l) (λ e. ltb-false t (start n) e)
+run_from start (suc n) t l = search (rules, run_from start n t l)
 
 -- The next one begins after it.
 pub run_to : (start : ℕ → ℕ) (n t : ℕ) → 0 < n → t < start n → t < start (suc (run_at start n t))
 run_to start zero t some l = absurd (omega arith)
-run_to start (suc zero) t some l =
-    cond_both (nat_lt t (start zero)) (run_at start zero t) zero (λ k. t < start (suc k)) (λ e. l) (λ e. l)
+run_to start (suc zero) t some l = search rules
 run_to start (suc (suc n)) t some l = cond_both (nat_lt t (start (suc n))) (run_at start (suc n) t) (suc n)
     (λ k. t < start (suc k)) (λ e. run_to start _ t (omega arith) (ltb-true t (start (suc n)) e)) (λ e. l)
 
 -- From the beginning of the last one on it is found.
 pub run_last : (start : ℕ → ℕ) (n t : ℕ) → 0 < n → start (n - 1) ≤ t → run_at start n t ≡ n - 1
-run_last start zero t some l = absurd (omega arith)
-run_last start (suc n) t some l =
-    let same : suc n - 1 ≡ n = omega arith in
-    let le : start n ≤ t = rw same at l in
-    cc (cond-false (nat_lt t (start n)) (run_at start n t) n (le-ltb t (start n) le))
+run_last start n t h1 h2 = search rules
 
 -- Place o of run k lies in run k.
 pub run_place : (f : ℕ → ℕ) (n k o : ℕ) → k < n → o < f k → run_at (count_below f) n (count_below f k + o) ≡ k
 run_place f zero k o l in_run = absurd (omega arith)
 run_place f (suc n) k o l in_run = elim (cases_eq k n) [
-  | inl e ↦ cond-false (nat_lt (count_below f k + o) (count_below f n)) _ _
-      (le-ltb _ _ (omega (arith, ap (count_below f) e))) ∙ sym e
-  | inr ne ↦ cond-true (nat_lt (count_below f k + o) (count_below f n)) _ _
-      (lt-ltb _ _ (omega (arith, count_rises f (suc k) n (omega arith)))) ∙ run_place f n k o (omega arith) in_run
+  | inl e ↦ search (rules, ap (count_below f) e)
+  | inr ne ↦ search (rules, count_rises f (suc k) n (omega arith), run_place f n k o (omega arith) in_run)
 ]
 
 -- Place t lies o after the beginning of run k.
@@ -71,11 +59,7 @@ pub record IsInRun (f : ℕ → ℕ) (n t k o : ℕ) : Type 0 where
 -- Each place lies in a run.
 pub run_here : (f : ℕ → ℕ) (n t : ℕ) → t < count_below f n
     → IsInRun f n t (run_at (count_below f) n t) (t - count_below f (run_at (count_below f) n t))
-run_here f zero t l = absurd (omega arith)
-run_here f (suc n) t l =
-    let from = run_from (count_below f) (suc n) t (omega arith) in
-    let to = run_to (count_below f) (suc n) t (omega arith) l in
-    record { low = run_low (count_below f) (suc n) t (omega arith); inside = omega arith; place = omega arith }
+run_here f n t h1 = search (rules, run_from, run_to, run_low)
 
 -- Places of runs are below the end.
 pub place_low : (f : ℕ → ℕ) (n k o : ℕ) → k < n → o < f k → count_below f k + o < count_below f n
@@ -91,12 +75,7 @@ place_same f n a k b o la lb lk lo same =
 
 -- A place below rows of so many is one of a row and a column.
 pub in_rows : (w h t : ℕ) → t < h * w → (t % w < w) × (t / w < h) × (t / w * w + t % w ≡ t)
-in_rows w h t low =
-    let some : 0 < w = elim (cases_eq w 0) [
-      | inl z ↦ let none : h * w ≡ 0 = ap (λ n. h * n) z ∙ omega arith in absurd (omega arith)
-      | inr n ↦ omega arith
-    ] in
-    (mod-lt t some, (div-lt_iff_lt-mul {k = w} {x = t} {y = h} some).1 low, div-add-mod' t w)
+in_rows w h t low = search rules
 
 -- Blocks of rows laid end to end: block p has h p rows of w p places.
 module _ (w h : ℕ → ℕ) (n : ℕ) where
@@ -146,14 +125,12 @@ div_less n k d some less = (div-lt_iff_lt-mul {k = d} {x = n} {y = k} some).1 le
 
 -- A smaller part of the whole is less.
 times_less : (k n m : ℕ) → k < n → 0 < m → k * m < n * m
-times_less k n m less some =
-    let e : (k + 1) * m ≤ n * m = mul-le (k + 1) m n m (omega arith) (omega arith) in omega arith
+times_less k n m less some = search rules
 
 module _ (l : Gluing) (old new : Lengths) (o_len : AreLengths l old) (n_len : AreLengths l new) where
   -- The old edge at a place of equal parts.
   pub even_edge : (a k : ℕ) → a < l.arcs → k < new a → k * old a / new a < old a
-  even_edge a k low less = div_less _ _ _ (n_len.some a low)
-      (rw (mul_comm (new a) (old a)) at (times_less k _ _ less (o_len.some a low)))
+  even_edge a k low less = search rules
 
 -- A step that ends before this old edge, in parts of a parameter.
 pub record IsInner (m : ℕ) (step : Step) : Type 0 where
@@ -176,8 +153,7 @@ sum_some edge part some = omega arith
 
 -- The shares that count are some.
 pub counted_some : (share : ℕ → ℕ) (m : ℕ) → 0 < m → 0 < count_below (counted share m) m
-counted_some share m some = cond_both (count_below share m == 0) (λ edge. 1) share (λ f. 0 < count_below f m)
-    (λ e. omega (arith, count_ones m)) (λ e. positive _ (eqb-false (count_below share m) 0 e))
+counted_some share m some = search rules
 
 -- Where place k of n lies between the ends of an arc of m old edges.
 module _ (share : ℕ → ℕ) (m n k : ℕ) (m_some : 0 < m) (all_some : 0 < count_below share m) (less : k < n) where
@@ -192,17 +168,13 @@ module _ (share : ℕ → ℕ) (m n k : ℕ) (m_some : 0 < m) (all_some : 0 < co
 
   -- The rest is a part of the share of the edge.
   rest_less : before - start edge < n * share edge
-  rest_less =
-      let to = run_to start m _ m_some (times_less k n _ less all_some) in
-      let sum = mul-add n (count_below share edge) (share edge) in
-      omega (arith, to, sum, run_from start m before (omega arith))
+  rest_less = search (rules, run_to, run_from)
 
   share_some : 0 < n * share edge
   share_some = omega (arith, rest_less)
 
   pub inner_is : IsInner m (inner_step share m n k)
-  inner_is = let part = div_less _ ONE _ share_some (omega (arith, rest_less)) in
-      record { edge = run_low start m _ m_some; part = part; parts = refl }
+  inner_is = search (rules, div_less, rest_less, run_low)
 
   -- It does not lie at the beginning of the arc, where no new edge is shorter than the unit of parameters.
   inner_some : 0 < k → n ≤ ONE → 0 < step_parameter (inner_step share m n k)
@@ -226,32 +198,19 @@ module _ (l : Gluing) (old new : Lengths) (shares : Shares) (o_len : AreLengths 
       (edge_begin (old a)) _ (IsInner (old a)) (λ same. absurd (omega (arith, eqb-true k (new a) same)))
       (λ ne. inner_is _ _ _ k (o_len.some a low) (counted_some _ _ (o_len.some a low)) less))
 
-  -- Its end.
-  parameter_end : (a : ℕ) → a < l.arcs → step_parameter (shared_step old new shares a (new a)) ≡ ONE * old a
-  parameter_end a low = ap step_parameter (cond-false (new a == 0) (edge_begin 0) _ (ne_eqb (new a) 0
-      (λ e. omega (arith, n_len.some a low)))
-      ∙ cond-true (new a == new a) (edge_begin (old a)) _ (eq-eqb (new a) (new a) refl)) ∙ omega arith
-
   module _ (few : (a : ℕ) → a < l.arcs → new a ≤ ONE) where
     parameter_some : (a k : ℕ) → a < l.arcs → 0 < k → k ≤ new a → 0 < step_parameter (shared_step old new shares a k)
     parameter_some a k low some le = cond_both (k == 0) (edge_begin 0) _ (λ s. 0 < step_parameter s)
         (λ e. absurd (omega (arith, eqb-true k 0 e))) (λ e. cond_both (k == new a) (edge_begin (old a)) _ (λ s. 0
         < step_parameter s) (λ same. omega (arith, o_len.some a low)) (λ ne. inner_some _ _ _ k (o_len.some a low)
-        (counted_some _ _ (o_len.some a low)) (elim (cases_eq k (new a))
-        [ inl e ↦ absurd (eqb-false k (new a) ne e) | inr other ↦ omega arith ]) some (few a low)))
+        (counted_some _ _ (o_len.some a low)) (search (rules, eqb-false k (new a) ne)) some (few a low)))
 
     begins_at : (a : ℕ) (forward : Bool) → a < l.arcs → shared_parameter old new shares a forward 0 ≡ 0
     begins_at a true low = refl
-    begins_at a false low =
-        let whole : new a - 0 ≡ new a = omega arith in
-        ap (λ k. ONE * old a - step_parameter (shared_step old new shares a k)) whole
-        ∙ omega (arith, parameter_end a low)
+    begins_at a false low = search rules
 
     ends_at : (a : ℕ) (forward : Bool) → a < l.arcs → shared_parameter old new shares a forward (new a) ≡ ONE * old a
-    ends_at a true low = parameter_end a low
-    ends_at a false low =
-        let none : new a - new a ≡ 0 = omega arith in
-        ap (λ k. ONE * old a - step_parameter (shared_step old new shares a k)) none ∙ omega arith
+    ends_at a forward h1 = search rules
 
     below_end : (a : ℕ) (forward : Bool) (k : ℕ) → a < l.arcs → k < new a
         → shared_parameter old new shares a forward k < ONE * old a
@@ -275,14 +234,7 @@ even_law l old new o_len n_len = record {
 }
 
 pub shared_law : SharedLaw
-shared_law l old new shares o_len n_len few = record {
-  begins = begins_at l old new shares o_len n_len few;
-  ends = ends_at l old new shares o_len n_len few;
-  below = below_end l old new shares o_len n_len few;
-  edges = λ a k low less. (step_is l old new shares o_len n_len a k low less).edge;
-  parts = λ a k low less.
-      let s = step_is l old new shares o_len n_len a k low less in omega (arith, s.part, s.parts);
-}
+shared_law l old new shares o_len n_len few = search (rules, begins_at, ends_at, below_end, step_is)
 
 -- How many numbers below a bound pass a test, compared by one-to-one maps.
 
@@ -305,15 +257,8 @@ but_same p {u} {k} apart = cond-false (k == u) false (p k) (ne_eqb k u apart)
 passing_but : (p : ℕ → Bool) (n u : ℕ) → u < n → p u ≡ true → passing p n ≡ suc (passing (but p u) n)
 passing_but p zero u low on = absurd (omega arith)
 passing_but p (suc n) u low on = elim (cases_eq n u) [
-  | inl e ↦
-      let rest = count_below_same (λ k. one_if (p k)) (λ k. one_if (but p u k)) n
-      (λ k l. ap one_if (sym (but_same p {u = u} {k = k} (λ s. omega arith)))) in
-      let last : one_if (p n) ≡ 1 = ap one_if (ap p e ∙ on) in
-      let none : one_if (but p u n) ≡ 0 = ap one_if (cond-true (n == u) false (p n) (eq-eqb n u e)) in
-      omega arith
-  | inr apart ↦
-      let last : one_if (p n) ≡ one_if (but p u n) = ap one_if (sym (but_same p apart)) in
-      omega (arith, passing_but p n u (omega arith) on)
+  | inl e ↦ search (rules, count_below_same)
+  | inr apart ↦ grind (arith, but_same p apart, passing_but p n u (omega arith) on)
 ]
 
 -- Where what passes p below m is mapped one to one to what passes q below n, there is no more of it.
@@ -331,9 +276,7 @@ passing_le p q (suc m) n to once = elim (cases_Bool (p m)) [
       let one : one_if (p m) ≡ 1 = ap one_if on in
       omega (arith, less, one, passing_but q n (to m last on).0 u_low u_on)
   | inr off ↦
-      let none : one_if (p m) ≡ 0 = ap one_if off in
-      let rest = passing_le p q m n (λ i l s. to i (up i l) s) (λ i j a b c d e. once i j (up i a) b (up j c) d e) in
-      omega (arith, none, rest)
+      search (rules, passing_le p q m n (λ i l s. to i (up i l) s) (λ i j a b c d e. once i j (up i a) b (up j c) d e))
 ]
   where
     last : m < suc m

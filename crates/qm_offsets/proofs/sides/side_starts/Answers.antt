@@ -1,6 +1,6 @@
-use Rattle.std.proofs.Common.{◌≡◌, suc, ◌^◌, ◌∙◌, ◌+◌, ◌-◌, ◌<◌, ◌≤◌, ℕ, true, false, List, length, get_or, ap, arith}
-use Rattle.std.proofs.lemmas.List.{get_or_default}
-use Rattle.def_layout.specs.declared.tmesh.SideArc.{SideArc}
+use Rattle.std.proofs.Common.{rules, ◌≡◌, suc, ◌^◌, ◌∙◌, ◌+◌, ◌-◌, ◌<◌, ◌≤◌, ℕ, true, false, List, length, get_or, ap}
+use Rattle.std.proofs.Common.{arith}
+use Rattle.{std.proofs.lemmas.List.get_or_default, def_layout.specs.declared.tmesh.SideArc.SideArc}
 use Rattle.def_remesh.specs.{NewPoints.lengths_in, Numberings.sizes_on, Numberings.AreRunStarts}
 use Rattle.{std.specs.Prelude.slice_index, def_math.specs.Counts.count_below, written_laws.proofs.Spacings.count_rises}
 use Rattle.qm_offsets.proofs.sides.side_starts.Goals as goal
@@ -27,8 +27,7 @@ room side lengths starts k low are small =
     omega (arith, upto, small, size_is side lengths k low, end)
 
 pub push_start-requires-clause-small : goal.push_start-requires-clause-small
-push_start-requires-clause-small c = room c.args.side.now c.args.lengths.now c.loop-used.starts.begin.items
-    c.loop-used.used-index c.loop-used-test.true c.loop-used.invariant c.requires.small
+push_start-requires-clause-small c = search (rules, room)
 
 pub loop-used-preserved : goal.loop-used-preserved
 loop-used-preserved c =

@@ -1,19 +1,13 @@
-use Rattle.std.proofs.Common.{◌≡◌, ℕ, List, [], ◌∷◌, ◌++◌, length, get_or, sym, ◌∙◌, ap, subst, inl, inr, length-append}
-use Rattle.std.proofs.Common.{arith}
+use Rattle.std.proofs.Common.{rules, ◌≡◌, ℕ, List, [], ◌∷◌, ◌++◌, length, get_or, sym, ◌∙◌, ap, subst, inl, inr}
+use Rattle.std.proofs.Common.{length-append, arith}
 use Rattle.std.proofs.lemmas.List.{map-append, length-map, get_or_append_left, get_or_push}
-use Rattle.std.proofs.lemmas.Bool.{cases_lt}
+use Rattle.{std.proofs.lemmas.Bool.cases_lt, qm_offsets.specs.Fours.begins_of, qm_offsets.specs.Fours.AreFourStarts}
 use Rattle.def_remesh.specs.{NewPoints.lengths_in, Numberings.tables_of}
-use Rattle.qm_offsets.specs.Fours.{begins_of, AreFourStarts}
 use Rattle.{def_layout.specs.Layouts.layout_of, qm_offsets.proofs.Whole.sides_of}
 use Rattle.qm_offsets.proofs.sides.side_tables.Goals as goal
 
 pub invariant_of-summed : goal.invariant_of-summed
-invariant_of-summed c =
-    record {
-      sides = sides_of (layout_of c.args.t.now) c.requires.layout;
-      long = c.requires.long;
-      small = c.requires.small;
-    }
+invariant_of-summed c = search (rules, sides_of)
 
 pub loop-patch-preserved : goal.loop-patch-preserved
 loop-patch-preserved c = record {

@@ -1,4 +1,4 @@
-use Rattle.std.proofs.Common.{length, arith}
+use Rattle.std.proofs.Common.{rules, length, arith}
 use Rattle.def_remesh.specs.{NewPoints.lengths_in, Numberings.sizes_on}
 use Rattle.qm_offsets.proofs.{Spots.count_step, Spots.term_room, Whole.read_size}
 use Rattle.qm_offsets.proofs.sizes.size_of.Goals as goal
@@ -15,10 +15,4 @@ overflow_add-size c =
     )
 
 pub loop-used-preserved : goal.loop-used-preserved
-loop-used-preserved c =
-    omega (
-      arith,
-      count_step (sizes_on c.args.side.now (lengths_in c.args.lengths.now)) c.loop-used.used-index,
-      read_size c.args.side.now (lengths_in c.args.lengths.now) c.loop-used.used-index c.loop-used-test.true,
-      c.loop-used.invariant,
-    )
+loop-used-preserved c = search (rules, count_step, read_size)

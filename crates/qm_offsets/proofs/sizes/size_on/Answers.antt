@@ -1,8 +1,7 @@
 use Rattle.std.proofs.Common.{◌≡◌, ℕ, ◌^◌, ◌<◌, ◌≤◌, length, ◌∙◌, ap, sym, arith}
-use Rattle.std.proofs.lemmas.List.{length-map}
+use Rattle.{std.proofs.lemmas.List.length-map, def_layoutnet.specs.MeshLayouts.IsSomeLayout}
 use Rattle.def_layout.specs.{Arcs.long_at, Arcs.path, Gluings.Way, Lengths.size, Layouts.gluing_of, Layouts.way_number}
 use Rattle.def_layout.specs.{Layouts.layout_of, declared.tmesh.TMesh.TMesh}
-use Rattle.def_layoutnet.specs.MeshLayouts.{IsSomeLayout}
 use Rattle.embedding_laws.proofs.Bounds.{laid_of, lengths_of, old_faces, side_few, side_most}
 use Rattle.qm_offsets.proofs.Whole.{side_long, sides_of, uses_low, way_for}
 use Rattle.{def_cut.specs.Grids.rectangle, def_remesh.specs.NewPoints.lengths_in, qm_offsets.specs.Fours.arcs_on}
@@ -49,8 +48,3 @@ size_of-requires-clause-small c =
       short c.args.t.now (lengths_in c.args.lengths.now) c.requires.layout c.requires.bounded c.args.patch way.0
           c.requires.patch,
     )
-
-pub returns : goal.returns
-returns c way is = c.size_of.ensures
-    ∙ side_long (layout_of c.args.t.now) c.args.patch way (lengths_in c.args.lengths.now)
-    c.side_of.result.now (c.side_of.ensures ∙ ap (arcs_on (layout_of c.args.t.now) c.args.patch) (sym is))

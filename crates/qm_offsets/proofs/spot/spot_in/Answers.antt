@@ -1,4 +1,4 @@
-use Rattle.std.proofs.Common.{◌≡◌, ◌⊎◌, ◌+◌, ◌<◌, ◌≤◌, length, get_or, ap, sym, inl, inr, arith}
+use Rattle.std.proofs.Common.{rules, ◌≡◌, ◌⊎◌, ◌+◌, ◌<◌, ◌≤◌, length, get_or, sym, inl, inr, arith}
 use Rattle.{def_math.specs.Counts.count_below, qm_offsets.proofs.Spots.spot_between}
 
 pub returns-clause-run : Rattle.qm_offsets.proofs.spot.spot_in.Goals.returns-clause-run
@@ -11,20 +11,10 @@ returns-clause-run c sizes runs are =
     from : (c.halves.low ≡ 0) ⊎ (get_or c.args.starts.now c.halves.low 0 ≤ c.args.place)
         → (c.halves.low ≡ 0) ⊎ (count_below sizes c.halves.low ≤ c.args.place)
     from (inl z) = inl z
-    from (inr le) = inr (omega (
-      arith,
-      le,
-      are.each c.halves.low (omega (arith, c.halves.invariant.high_low, c.halves.invariant.apart, are.count)),
-    ))
+    from (inr le) = search rules
 
     to : c.halves.high ≡ c.halves.low + 1 → (c.halves.high + 1 ≡ length c.args.starts.now)
         ⊎ (c.args.place < get_or c.args.starts.now c.halves.high 0)
         → (c.halves.low + 1 ≡ runs) ⊎ (c.args.place < count_below sizes (c.halves.low + 1))
     to next (inl e) = inl (omega (arith, e, next, are.count))
-    to next (inr less) =
-        inr (omega (
-          arith,
-          less,
-          ap (count_below sizes) next,
-          are.each c.halves.high (omega (arith, c.halves.invariant.high_low, are.count)),
-        ))
+    to next (inr less) = search rules

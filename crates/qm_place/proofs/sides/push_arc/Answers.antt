@@ -1,7 +1,6 @@
 use Rattle.std.proofs.Common.{◌≡◌, ◌+◌, ◌-◌, ◌*◌, cond, not, sym, ◌∙◌}
-use Rattle.std.proofs.lemmas.Bool.{cond-true, cond-false}
+use Rattle.{std.proofs.lemmas.Bool.cond-true, std.proofs.lemmas.Bool.cond-false, qm_place.proofs.Pushes.pushed_more}
 use Rattle.qm_place.proofs.sides.push_arc.Goals.{then-back, else-back, then-back-2, else-back-2}
-use Rattle.qm_place.proofs.Pushes.{pushed_more}
 use Rattle.{def_remesh.specs.NewPoints.lengths_in, def_written.specs.Places.ONE, qm_place.specs.OnArcs.spacing_on}
 
 pub loop-offset-preserved : Rattle.qm_place.proofs.sides.push_arc.Goals.loop-offset-preserved

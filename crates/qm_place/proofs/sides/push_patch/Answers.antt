@@ -8,36 +8,24 @@ pub overflow_sub-wide : goal.overflow_sub-wide
 overflow_sub-wide c = omega (arith, (c.in_ok-push_side.ensures south refl).long)
 
 pub overflow_sub-high : goal.overflow_sub-high
-overflow_sub-high c = omega (
-  arith,
-  (c.in_ok-push_side.ensures south refl).long,
-  (c.in_ok-push_side-2.ensures east refl).long,
-)
+overflow_sub-high c =
+    omega (arith, (c.in_ok-push_side.ensures south refl).long, (c.in_ok-push_side-2.ensures east refl).long)
 
 pub overflow_sub-high-2 : goal.overflow_sub-high-2
-overflow_sub-high-2 c = omega (
-  arith,
-  (c.in_ok-push_side.ensures south refl).long,
-  (c.in_ok-push_side-2.ensures east refl).long,
-)
+overflow_sub-high-2 c =
+    omega (arith, (c.in_ok-push_side.ensures south refl).long, (c.in_ok-push_side-2.ensures east refl).long)
 
 pub overflow_cast-result : goal.overflow_cast-result
 overflow_cast-result c =
-    omega (
-      arith,
-      (c.in_ok-push_side.ensures south refl).long,
-      c.args.places.now.fine.new_few c.args.patch south
-          (omega (arith, length-map c.args.places.now.t.now.patches.items rectangle)),
-    )
+    let many = length-map c.args.places.now.t.now.patches.items rectangle in
+    let few = c.args.places.now.fine.new_few c.args.patch south (omega (arith, many)) in
+    omega (arith, few, (c.in_ok-push_side.ensures south refl).long)
 
 pub overflow_cast-result-2 : goal.overflow_cast-result-2
-overflow_cast-result-2 c = omega (
-  arith,
-  (c.in_ok-push_side.ensures south refl).long,
-  (c.in_ok-push_side-2.ensures east refl).long,
-  c.args.places.now.fine.new_few c.args.patch east
-      (omega (arith, length-map c.args.places.now.t.now.patches.items rectangle)),
-)
+overflow_cast-result-2 c =
+    let many = length-map c.args.places.now.t.now.patches.items rectangle in
+    let few = c.args.places.now.fine.new_few c.args.patch east (omega (arith, many)) in
+    omega (arith, few, (c.in_ok-push_side.ensures south refl).long, (c.in_ok-push_side-2.ensures east refl).long)
 
 pub returns-clause-rim : goal.returns-clause-rim
 returns-clause-rim c = rim_built (spacing_on c.args.places.now) c.args.places.now.fine

@@ -1,4 +1,4 @@
-use Rattle.std.proofs.Common.{◌≡◌, ◌+◌, ◌-◌, ◌^◌, ◌≤◌, false, cond, get_or, ◌∙◌, ap, arith}
+use Rattle.std.proofs.Common.{rules, ◌≡◌, ◌+◌, ◌-◌, ◌^◌, ◌≤◌, false, cond, get_or, ◌∙◌, ap, arith}
 use Rattle.def_layout.specs.{Layouts.gluing_of, Layouts.way_number, Layouts.layout_of, Arcs.long_at}
 use Rattle.def_layout.specs.{declared.tmesh.SideArc.SideArc, Gluings.Way}
 use Rattle.qm_place.proofs.{Rims.back_by, Rims.old_read, Rims.read, Rims.side_more, Rims.start_few, Rims.IsRead}
@@ -32,11 +32,7 @@ push_arc-requires-clause-few c =
     let upto : c.loop-used.before + c.len-old.result ≤ c.old_size-whole.result =
     omega (arith, at.old_upto, old, c.loop-used.invariant.before w.0 w.1, c.old_size-whole.ensures w.0 w.1) in
     let few : c.old_size-whole.result ≤ 2 ^ 21 = omega (arith, at.old_short, c.old_size-whole.ensures w.0 w.1) in
-    omega (
-      arith,
-      c.start_of-start.ensures,
-      start_few c.loop-used.before c.len-old.result (nat_le 2 c.args.side) upto few,
-    )
+    omega (arith, c.start_of-start.ensures, start_few c.loop-used.before _ (nat_le 2 c.args.side) upto few)
 
 pub push_arc-requires-clause-arc : goal.push_arc-requires-clause-arc
 push_arc-requires-clause-arc c =
@@ -64,8 +60,7 @@ loop-used-preserved c = record {
     here : (s : Way) → way_number s ≡ c.args.side
         → IsRead c.args.places.now.t.now c.args.places.now.lengths.now c.args.patch c.loop-used.used-index s
         (get_or c.side_of-used-items.result.now c.loop-used.used-index (record { arc = 0; forward = false }))
-    here s way = read c.args.places.now.t.now c.args.places.now.fine c.requires.low c.side_of-used-items.ensures
-        c.loop-used-test.true way
+    here s way = search (rules, read)
 
     old_is : (s : Way) → way_number s ≡ c.args.side
         → c.len-old.result ≡ long_at (layout_of c.args.places.now.t.now).arcs

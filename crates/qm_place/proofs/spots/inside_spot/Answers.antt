@@ -1,7 +1,6 @@
 use Rattle.std.proofs.Common.{◌≡◌, ◌+◌, ◌-◌, ◌/◌, ◌%◌, ◌∙◌, arith}
 use Rattle.def_layout.specs.{Lengths.wide, Layouts.gluing_of, Layouts.layout_of}
-use Rattle.def_written.specs.Numbers.{before_patch}
-use Rattle.def_remesh.specs.NewPoints.{lengths_in}
+use Rattle.{def_written.specs.Numbers.before_patch, def_remesh.specs.NewPoints.lengths_in}
 use Rattle.{def_map.specs.Spots.face_spot, qm_place.specs.Lengthened.spacing_at, qm_place.proofs.Entries.offset_read}
 use Rattle.qm_place.proofs.spots.inside_spot.Goals as goal
 

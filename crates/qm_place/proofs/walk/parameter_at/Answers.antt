@@ -1,7 +1,6 @@
-use Rattle.std.proofs.Common.{◌≡◌, ◌-◌, ◌*◌, ◌/◌, ◌^◌, ◌<◌, ◌≤◌, length, ◌∙◌, arith}
-use Rattle.std.proofs.lemmas.Nat.{mul-le}
+use Rattle.std.proofs.Common.{rules, ◌≡◌, ◌-◌, ◌*◌, ◌/◌, ◌^◌, ◌<◌, ◌≤◌, ◌∙◌, arith}
+use Rattle.{std.proofs.lemmas.Nat.mul-le, def_written.specs.Places.ONE, qm_place.specs.Walks.share_in}
 use Rattle.qm_place.proofs.{Rims.part_low, Rims.rest_low, walk.parameter_at.Goals.After-from-5}
-use Rattle.{def_written.specs.Places.ONE, qm_place.specs.Walks.share_in}
 use Rattle.qm_place.proofs.walk.parameter_at.Goals as goal
 
 -- The rest of the place, and the share of the edge, as they are computed.
@@ -14,11 +13,7 @@ share c = λ i. c.from-3.ensures i * (c.from-4.ensures ∙ c.share_at.ensures.va
 
 less : (c : After-from-5) → c.args.k * c.args.path.now.all - c.args.new * c.args.at.before
     < c.args.new * share_in c.args.path.now c.args.at.edge
-less c =
-    let path = c.args.path.now in
-    rest_low (share_in path) (length path.darts.now) c.args.new c.args.k path.all path.whole path.some c.requires.place
-    c.args.at.edge c.args.at.before c.requires.reached.edge c.requires.reached.before c.requires.reached.upto
-    c.requires.edge
+less c = search (rules, rest_low)
 
 few : (c : After-from-5) → c.args.new * share_in c.args.path.now c.args.at.edge ≤ 2 ^ 32 * 2 ^ 62
 few c = mul-le _ _ (2 ^ 32) (2 ^ 62) (omega arith) (omega arith)
@@ -30,20 +25,13 @@ part c =
     let same : c.from-5.result * (c.from.result * path.all - c.from-2.result * c.args.at.before)
     / (c.from-3.result * c.from-4.result) ≡ ONE * (c.args.k * path.all - c.args.new * c.args.at.before)
     / (c.args.new * share_in path c.args.at.edge) = λ i. c.from-5.ensures i * rest c i / share c i in
-    omega (
-      arith,
-      same,
-      part_low (share_in path) (length path.darts.now) c.args.new c.args.k path.all path.whole path.some
-          c.requires.place c.args.at.edge c.args.at.before c.requires.reached.edge c.requires.reached.before
-          c.requires.reached.upto c.requires.edge,
-    )
+    let at = c.requires.reached in
+    let low =
+    part_low (share_in path) path.whole path.some c.requires.place at.edge at.before at.upto c.requires.edge in
+    omega (arith, same, low)
 
 pub overflow_mul-result-2 : goal.overflow_mul-result-2
-overflow_mul-result-2 c =
-    let at = (goal.at.overflow_mul-result-2 c).After-from-5 in
-    let same : c.from-5.result * (c.from.result * c.args.path.now.all - c.from-2.result * c.args.at.before)
-    ≡ ONE * (c.args.k * c.args.path.now.all - c.args.new * c.args.at.before) = λ i. c.from-5.ensures i * rest at i in
-    omega (arith, less at, few at)
+overflow_mul-result-2 c = search (rules, less)
 
 pub nonzero_div-result : goal.nonzero_div-result
 nonzero_div-result c =

@@ -8,13 +8,11 @@ sum : (c : goal.After-weigh-4) → to_z w128 (of_z w128 (to_z w128
     (of_z w128 (to_z w128 (of_z w128 c.weigh.result) +ℤ to_z w128 (of_z w128 c.weigh-2.result)))
     +ℤ to_z w128 (of_z w128 (to_z w128 (of_z w128 c.weigh-3.result) +ℤ to_z w128 (of_z w128 c.weigh-4.result)))))
     ≡ (c.weigh.result +ℤ c.weigh-2.result) +ℤ (c.weigh-3.result +ℤ c.weigh-4.result)
-sum c = sum_is c.weigh.result c.weigh-2.result c.weigh-3.result c.weigh-4.result
-    c.weigh.ensures.short c.weigh-2.ensures.short c.weigh-3.ensures.short c.weigh-4.ensures.short
+sum c = search (rules, sum_is)
 
 few : (c : goal.After-weigh-4)
     → unsigned_abs ((c.weigh.result +ℤ c.weigh-2.result) +ℤ (c.weigh-3.result +ℤ c.weigh-4.result)) ≤ 2 ^ 118
-few c = sum_fits c.weigh.result c.weigh-2.result c.weigh-3.result c.weigh-4.result
-    c.weigh.ensures.short c.weigh-2.ensures.short c.weigh-3.ensures.short c.weigh-4.ensures.short
+few c = search (rules, sum_fits)
 
 pub overflow_add-south-2 : goal.overflow_add-south-2
 overflow_add-south-2 c = omega (
@@ -34,30 +32,10 @@ overflow_add-south-3 c = fits _ _ (sum c) (few c)
 
 is : (c : goal.After-div_euclid-mean) → c.div_euclid-mean.result ≡ blend c.args.s c.args.t c.p00.inside.n c.p10.inside.n
     c.p01.inside.n c.p11.inside.n
-is c = mean_is (record {
-  s_le = c.requires.0;
-  t_le = c.requires.1;
-  a_small = c.p00.invariant;
-  b_small = c.p10.invariant;
-  c_small = c.p01.invariant;
-  d_small = c.p11.invariant;
-  a_is = c.weigh.ensures.value;
-  b_is = c.weigh-2.ensures.value;
-  c_is = c.weigh-3.ensures.value;
-  d_is = c.weigh-4.ensures.value;
-  a_short = c.weigh.ensures.short;
-  b_short = c.weigh-2.ensures.short;
-  c_short = c.weigh-3.ensures.short;
-  d_short = c.weigh-4.ensures.short;
-}) c.div_euclid-mean.ensures
+is c = search (rules, mean_is)
 
 small : (c : goal.After-div_euclid-mean) → unsigned_abs c.div_euclid-mean.result ≤ 999999999999999
-small c = omega (
-  arith,
-  ap unsigned_abs (is c),
-  blend_micro c.p00.inside.n c.p10.inside.n c.p01.inside.n c.p11.inside.n c.requires.0 c.requires.1
-      c.p00.invariant c.p10.invariant c.p01.invariant c.p11.invariant,
-)
+small c = search (rules, is, blend_micro)
 
 pub overflow_cast-result : goal.overflow_cast-result
 overflow_cast-result c = omega (arith, ints, small c)

@@ -1,7 +1,6 @@
 use Rattle.std.proofs.Common.{◌≡◌, ◌≤◌, ◌^◌, ◌*◌, pos, ◌+ℤ◌, ◌*ℤ◌, to_z, of_z, arith}
-use Rattle.std.proofs.lemmas.Int.{ints}
+use Rattle.{std.proofs.lemmas.Int.ints, qm_place.proofs.Casts.part_is}
 use Rattle.std.specs.{Prelude.unsigned_abs, Int.int_div_euclid, Int.w64, Int.w128}
-use Rattle.qm_place.proofs.Casts.{part_is}
 use Rattle.qm_place.proofs.ways.part_of.Goals as goal
 
 here : (c : goal.After-div_euclid-part) → (to_z w64 (of_z w64 (to_z w128 (of_z w128 c.div_euclid-part.result)))

@@ -1,6 +1,5 @@
-use Rattle.std.proofs.Common.{◌≡◌, ℕ, ◌-◌, ◌*◌, List, length, sym, ◌∙◌, ap, arith}
-use Rattle.std.proofs.lemmas.List.{length-map}
-use Rattle.qm_offsets.proofs.Spots.{next_room, term_room}
+use Rattle.std.proofs.Common.{rules, ◌≡◌, ℕ, ◌-◌, ◌*◌, List, length, sym, arith}
+use Rattle.{std.proofs.lemmas.List.length-map, qm_offsets.proofs.Spots.next_room, qm_offsets.proofs.Spots.term_room}
 use Rattle.{std.specs.Prelude.slice_index, def_remesh.specs.Numberings.tables_of, qm_offsets.specs.Fours.begins_of}
 use Rattle.{qm_stitch.specs.Sizes.product_by, qm_stitch.proofs.build.patch_starts.Goals.After-last_of-in-loop-patch}
 use Rattle.qm_stitch.proofs.build.patch_starts.Goals as goal
@@ -12,8 +11,7 @@ end_of starts = slice_index starts (length starts - 1)
 product : (c : After-last_of-in-loop-patch)
     → (c.last_of.result - c.args.less) * (c.last_of-in-loop-patch.result - c.args.less)
     ≡ product_by (tables_of c.args.sides.now) c.args.less c.loop-patch.patch
-product c = λ i. ((c.last_of.ensures ∙ ap end_of c.starts_on.ensures) i - c.args.less)
-    * ((c.last_of-in-loop-patch.ensures ∙ ap end_of c.starts_on-in-loop-patch.ensures) i - c.args.less)
+product c = search rules
 
 pub overflow_mul-wide : goal.overflow_mul-wide
 overflow_mul-wide c = omega (

@@ -1,10 +1,8 @@
 use Rattle.std.proofs.Common.{◌≡◌, ℕ, ◌≤◌, List, sym, ◌∙◌, subst, arith}
-use Rattle.std.proofs.lemmas.List.{length-map}
+use Rattle.{std.proofs.lemmas.List.length-map, def_cut.specs.Grids.rectangle, def_layout.specs.Layouts.layout_of}
 use Rattle.def_remesh.specs.{Numberings.tables_of, declared.tables.RunStarts.RunStarts}
-use Rattle.qm_stitch.specs.Sizes.{AreRows, IsFine}
+use Rattle.qm_stitch.{specs.Sizes.AreRows, specs.Sizes.IsFine, proofs.build.tables.Goals.In_ok-sides}
 use Rattle.qm_stitch.proofs.Built.{built, few_points, lengths_short, points_short, rows, sides_short}
-use Rattle.qm_stitch.proofs.build.tables.Goals.{In_ok-sides}
-use Rattle.{def_cut.specs.Grids.rectangle, def_layout.specs.Layouts.layout_of}
 use Rattle.qm_stitch.proofs.build.tables.Goals as goal
 
 pub short_lengths-requires : goal.short_lengths-requires

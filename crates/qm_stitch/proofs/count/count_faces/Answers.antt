@@ -1,12 +1,11 @@
-use Rattle.std.proofs.Common.{◌≡◌, ℕ, suc, ◌+◌, ◌*◌, ◌^◌, ◌<◌, ◌≤◌, length, refl, ◌∙◌, arith}
-use Rattle.std.proofs.lemmas.List.{length-map}
+use Rattle.std.proofs.Common.{rules, ◌≡◌, ℕ, suc, ◌+◌, ◌*◌, ◌^◌, ◌<◌, ◌≤◌, length, refl, ◌∙◌, arith}
+use Rattle.{std.proofs.lemmas.List.length-map, def_layoutnet.specs.MeshLayouts.IsSomeLayout}
 use Rattle.def_layout.specs.{Arcs.long_at, Gluings.south, Gluings.west, Lengths.wide, Lengths.high, Layouts.gluing_of}
 use Rattle.def_layout.specs.{Layouts.layout_of, declared.tmesh.TMesh.TMesh}
-use Rattle.def_layoutnet.specs.MeshLayouts.{IsSomeLayout}
 use Rattle.def_written.specs.NewFaces.{cells_before, face_count}
 use Rattle.embedding_laws.proofs.Bounds.{laid_of, lengths_of, cells_most, old_faces}
 use Rattle.written_laws.proofs.Spacings.{count_rises}
-use Rattle.{def_cut.specs.Grids.rectangle, def_remesh.specs.NewPoints.lengths_in, qm_offsets.proofs.Spots.count_step}
+use Rattle.{def_cut.specs.Grids.rectangle, def_remesh.specs.NewPoints.lengths_in}
 use Rattle.qm_stitch.proofs.count.count_faces.Goals as goal
 
 -- All faces are few enough for 128 bits.
@@ -40,7 +39,4 @@ overflow_add-faces c =
     omega (arith, product c, few s.t.now (lengths_in s.lengths.now) c.requires.layout s.bounded c.loop-patch.patch low)
 
 pub loop-patch-preserved : goal.loop-patch-preserved
-loop-patch-preserved c =
-    let l = gluing_of (layout_of c.args.stretched.now.t.now) in
-    let x = lengths_in c.args.stretched.now.lengths.now in
-    omega (arith, product c, count_step (λ q. wide l x q * high l x q) c.loop-patch.patch)
+loop-patch-preserved c = search (rules, product)

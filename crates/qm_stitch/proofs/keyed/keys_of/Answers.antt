@@ -1,8 +1,4 @@
-use Rattle.std.proofs.{Common.◌∙◌, Common.ap, lemmas.List.Sorted.sum_by-IsPermutation}
-use Rattle.std.specs.List.{sum_by}
+use Rattle.std.proofs.{Common.rules, lemmas.List.Sorted.sum_by-IsPermutation}
 
 pub returns : Rattle.qm_stitch.proofs.keyed.keys_of.Goals.returns
-returns c = record {
-  increasing = c.sort.ensures.increasing;
-  moved = λ f. sum_by-IsPermutation f _ _ c.sort.ensures.moved ∙ ap (sum_by f) c.in_ok-keys.ensures;
-}
+returns c = search (rules, sum_by-IsPermutation)

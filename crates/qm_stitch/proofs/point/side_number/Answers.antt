@@ -1,7 +1,6 @@
-use Rattle.std.proofs.Common.{length, ◌∙◌, ap}
+use Rattle.{std.proofs.Common.rules, std.proofs.Common.length, qm_stitch.specs.Lengthened.lengths_by}
 use Rattle.qm_stitch.proofs.{Grids.there, Grids.IsThere, point.side_number.Goals.After-spot_in-at}
-use Rattle.qm_stitch.specs.Lengthened.{gluing_in, lengths_by}
-use Rattle.{def_written.specs.Numbers.vertex_number, def_remesh.specs.Numberings.sizes_on}
+use Rattle.{def_remesh.specs.Numberings.sizes_on}
 use Rattle.qm_stitch.proofs.point.side_number.Goals as goal
 
 here : (c : After-spot_in-at) → IsThere c.args.side.now.numbered.numbers c.args.side.now.arcs.now
@@ -19,5 +18,4 @@ pub use_number-requires-clause-upto : goal.use_number-requires-clause-upto
 use_number-requires-clause-upto c = (here (goal.at.use_number-requires-clause-upto c).After-spot_in-at).upto
 
 pub returns : goal.returns
-returns c = c.use_number.ensures ∙ ap (vertex_number (gluing_in c.args.side.now.numbered)
-    (lengths_by c.args.side.now.numbered)) (here (goal.at.returns c).After-spot_in-at).point
+returns c = search (rules, here)

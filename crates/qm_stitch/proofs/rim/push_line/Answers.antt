@@ -1,14 +1,11 @@
-use Rattle.std.proofs.{Common.◌-◌, Common.ℕ, Common.◌∙◌, Common.ap, Common.arith, lemmas.Bool.lt-ltb}
+use Rattle.std.proofs.{Common.rules, Common.◌-◌, Common.ℕ, Common.◌∙◌, Common.ap, Common.arith, lemmas.Bool.lt-ltb}
 use Rattle.qm_stitch.specs.{Rims.along_lines, Rims.key_of, Rims.line_edge, Lengthened.gluing_in, Lengthened.lengths_by}
 use Rattle.qm_stitch.proofs.RimEdges.{first_next}
 use Rattle.{std.specs.Prelude.nat_lt, def_layout.specs.Lengths.size, written_laws.proofs.Sides.size_some}
 use Rattle.qm_stitch.proofs.rim.push_line.Goals as goal
 
 pub key_at-requires-clause-low : goal.key_at-requires-clause-low
-key_at-requires-clause-low c =
-    let numbered = c.args.numbered.now in
-    size_some _ _ numbered.numbers.whole.paved numbered.numbers.lengths
-    _ _ c.requires.line.patch
+key_at-requires-clause-low c = search (rules, size_some)
 
 pub returns-in_ok-push-2 : goal.returns-in_ok-push-2
 returns-in_ok-push-2 c =

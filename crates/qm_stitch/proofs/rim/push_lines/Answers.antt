@@ -1,26 +1,16 @@
-use Rattle.std.proofs.Common.{◌≡◌, ◌<◌, ◌-◌, ◌+◌, ℕ, not, length, sym, arith}
-use Rattle.std.proofs.lemmas.List.{append-nil, length-map}
-use Rattle.def_layout.specs.{Lengths.size, Layouts.layout_of, declared.tmesh.TMesh.TMesh}
+use Rattle.std.proofs.Common.{rules, ◌≡◌, ◌-◌, ◌+◌, not, arith}
+use Rattle.def_layout.specs.{Lengths.size}
 use Rattle.qm_stitch.specs.{Rims.along_lines, Rims.key_of, Rims.line_ends, Lengthened.gluing_in, Lengthened.lengths_by}
-use Rattle.{def_cut.specs.Grids.rectangle, qm_stitch.proofs.RimEdges.parts_next, written_laws.proofs.Sides.size_some}
+use Rattle.{qm_stitch.proofs.Grids.patch_low, qm_stitch.proofs.RimEdges.parts_next, written_laws.proofs.Sides.size_some}
 use Rattle.qm_stitch.proofs.rim.push_lines.Goals as goal
 
-low : (t : TMesh) (patch : ℕ) → patch < length t.patches.items → patch < length (layout_of t).patches
-low t patch less = omega (arith, length-map t.patches.items rectangle)
-
 pub loop-number-init : goal.loop-number-init
-loop-number-init c = record {
-  some = omega arith;
-  upto = size_some (gluing_in c.args.numbered.now) (lengths_by c.args.numbered.now)
-      c.args.numbered.now.numbers.whole.paved c.args.numbered.now.numbers.lengths c.args.patch
-      (along_lines (not c.args.upright)) (low c.args.numbered.now.t.now c.args.patch c.requires.patch);
-  items = sym (append-nil c.args.keys.now.items);
-}
+loop-number-init c = search (rules, size_some, patch_low)
 
 pub push_line-requires : goal.push_line-requires
 push_line-requires c = record {
   line = record {
-    patch = low c.args.numbered.now.t.now c.args.patch c.requires.patch;
+    patch = patch_low c.args.numbered.now.t.now c.requires.patch;
     some = c.loop-number.invariant.some;
     inside = omega (
       arith,

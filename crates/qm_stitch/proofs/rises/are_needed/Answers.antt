@@ -1,5 +1,4 @@
-use Rattle.std.proofs.Common.{◌≡◌, length, sym, ◌∙◌, ap, arith}
-use Rattle.std.proofs.lemmas.List.{length-map}
+use Rattle.std.proofs.{Common.◌≡◌, Common.length, Common.sym, Common.◌∙◌, Common.arith, lemmas.List.length-map}
 use Rattle.def_layout.specs.{Arcs.path, Layouts.gluing_of, Layouts.layout_of}
 use Rattle.qm_stitch.proofs.{Grids.tables_are, RiseLists.needed_are}
 use Rattle.qm_stitch.proofs.rises.are_needed.Goals as goal
@@ -9,10 +8,6 @@ invariant_of-numbered c = record { numbers = tables_are c.in_ok-tables.ensures.n
 
 pub invariant_of-keyed : goal.invariant_of-keyed
 invariant_of-keyed c = record { rim = rw c.deref.ensures.value c.in_ok-keys.ensures }
-
-pub invariant_of-marked : goal.invariant_of-marked
-invariant_of-marked c =
-    record { each = ap length c.deref-2.ensures.value ∙ c.in_ok-tight.ensures.long ∙ sym c.requires.long }
 
 pub returns : goal.returns
 returns c =

@@ -1,6 +1,5 @@
-use Rattle.std.proofs.Common.{◌≡◌, ◌↔◌, ◌<◌, true, false, length, sym, ◌∙◌, ap, subst, inl, inr, arith}
-use Rattle.std.proofs.{lemmas.Bool.cases_eq, lemmas.Bool.false≢true, lemmas.List.Elements.Contains-get_or}
-use Rattle.std.proofs.{lemmas.Result.IfOk-weaker}
+use Rattle.std.proofs.Common.{◌≡◌, ◌↔◌, length, sym, ◌∙◌, ap, subst}
+use Rattle.std.proofs.{lemmas.List.Elements.Contains-get_or, lemmas.Result.IfOk-weaker}
 use Rattle.qm_stitch.specs.{Remedies.AreMarksOf, Remedies.IsRemedy, declared.remedy.Remedy.Remedy}
 use Rattle.qm_stitch.proofs.{RiseLists.choice_follows, RiseLists.choice_needed, RiseLists.remedy_in}
 use Rattle.qm_stitch.proofs.{rises.cheapest_rises.Goals.In_ok-remedies}
@@ -23,12 +22,6 @@ long : (c : In_ok-remedies)
     → length c.args.priced.now.lengths.now ≡ length (layout_of c.args.priced.now.keyed.numbered.t.now).arcs
 long c = ap length (sym c.args.priced.now.same) ∙ c.args.priced.now.keyed.numbered.numbers.long
 
-pub invariant_of-marked : goal.invariant_of-marked
-invariant_of-marked c = record {
-  each = ap length c.deref-2.ensures.value ∙ c.in_ok-chosen.ensures.long
-      ∙ sym (long (goal.at.invariant_of-marked c).In_ok-remedies);
-}
-
 pub returns : goal.returns
 returns c =
     let w = (goal.at.returns c).In_ok-remedies in
@@ -37,16 +30,11 @@ returns c =
     let rs = c.in_ok-remedies.remedies.items in
     let marks = subst (AreMarksOf (layout_of c.args.priced.now.keyed.numbered.t.now) rs) (sym c.deref-2.ensures.value)
     c.in_ok-chosen.ensures in
-    let any : c.is_any-some.result ≡ true → 0 < length rs =
-    λ on. omega (arith, c.is_any-some.ensures.0 on, ap length c.deref.ensures.value) in
-    let none : c.is_any-some.result ≡ false → length rs ≡ 0 = λ off. elim (cases_eq (length rs) 0) [
-      | inl same ↦ same
-      | inr some ↦ absurd (false≢true (sym off
-          ∙ c.is_any-some.ensures.1 (omega (arith, some, ap length c.deref.ensures.value))))
-    ] in
+    let told = rw c.deref.ensures.value at c.is_any-some.ensures in
     record {
-      needed = IfOk-weaker c.rises_by.result _ _ (λ rises risen. choice_needed prices paved (long w) (found w) marks any
-          none risen c.args.priced.now.short) c.rises_by.ensures;
+      needed = IfOk-weaker c.rises_by.result _ _ (λ rises risen. choice_needed prices paved (long w)
+          (found w) marks told
+          risen c.args.priced.now.short) c.rises_by.ensures;
       cheapest = IfOk-weaker c.rises_by.result _ _ (λ rises risen. choice_follows prices paved (long w) (found w) marks
-          any none risen) c.rises_by.ensures;
+          told risen) c.rises_by.ensures;
     }

@@ -1,13 +1,12 @@
-use Rattle.std.proofs.Common.{◌≡◌, ◌<◌, ◌/◌, [], length, get_or, refl, sym, ◌∙◌, ap, rules, arith}
+use Rattle.std.proofs.Common.{◌≡◌, ◌<◌, ◌/◌, length, get_or, refl, rules, arith}
 use Rattle.std.proofs.lemmas.List.{get_or-map, length-map}
-use Rattle.def_layout.specs.{Arcs.long_at, Arcs.path, Arcs.Path, Layouts.layout_of, declared.tmesh.TArc.TArc}
+use Rattle.def_layout.specs.{Arcs.long_at, Arcs.path, Layouts.layout_of, declared.tmesh.TArc.TArc}
 use Rattle.def_layout.specs.{declared.tmesh.TMesh.TMesh}
 use Rattle.{def_remesh.specs.NewPoints.lengths_in, qm_stitch.proofs.SafeLengths.times_found}
 
 first_old : (t : TMesh) (arc : TArc) → 0 < length t.arcs.items → arc ≡ get_or t.arcs.items 0 arc
     → length arc.darts.items ≡ long_at (layout_of t).arcs 0
-first_old t arc some read = ap (λ (a : TArc). length a.darts.items) read ∙ sym (ap (λ (p : Path). length p.darts)
-    (get_or-map path _ 0 arc (record { first = 0; last = 0; darts = [] }) some))
+first_old t arc some read = search (rules, get_or-map)
 
 pub returns-then-old-gt0 : Rattle.qm_stitch.proofs.safe.are_multiples.Goals.returns-then-old-gt0
 returns-then-old-gt0 c =

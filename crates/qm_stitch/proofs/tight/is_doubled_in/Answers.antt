@@ -1,7 +1,6 @@
 use Rattle.std.proofs.Common.{not, sym, ◌∙◌, inl, inr, subst, arith}
-use Rattle.std.proofs.lemmas.Bool.{cases_eq, false≢true}
+use Rattle.{std.proofs.lemmas.Bool.cases_eq, std.proofs.lemmas.Bool.false≢true, qm_stitch.proofs.TightEdges.line_parts}
 use Rattle.qm_stitch.specs.{Lengthened.gluing_in, Lengthened.lengths_by, Rims.along_lines, Tight.IsLineDoubled}
-use Rattle.qm_stitch.proofs.TightEdges.{line_parts}
 use Rattle.qm_stitch.proofs.tight.is_doubled_in.Goals as goal
 
 pub loop-number-preserved : goal.loop-number-preserved

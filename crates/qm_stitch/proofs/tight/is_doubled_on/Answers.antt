@@ -1,6 +1,6 @@
-use Rattle.std.proofs.Common.{◌≡◌, ◌↔◌, ℕ, refl, sym, subst, below_more, ◌∙◌, true, arith}
+use Rattle.std.proofs.Common.{◌≡◌, ◌↔◌, ℕ, refl, sym, below_more, ◌∙◌, true, arith}
 use Rattle.std.proofs.{lemmas.Bool.false≢true, lemmas.List.length-map}
-use Rattle.qm_stitch.specs.{Lengthened.gluing_in, Lengthened.lengths_by, Rims.IsRepeat, Tight.IsDoubled}
+use Rattle.qm_stitch.specs.{Lengthened.gluing_in, Lengthened.lengths_by, Tight.IsDoubled}
 use Rattle.qm_stitch.proofs.{TightEdges.end_is, TightEdges.key_tells, tight.is_doubled_on.Goals.After-is_repeat}
 use Rattle.{def_layout.specs.Arcs.path, def_written.specs.Edges.on_arc}
 use Rattle.qm_stitch.proofs.tight.is_doubled_on.Goals as goal
@@ -9,17 +9,13 @@ told : (c : After-is_repeat) → (c.is_repeat.result ≡ true)
     ↔ IsDoubled (gluing_in c.args.keyed.now.numbered) (lengths_by c.args.keyed.now.numbered)
     (on_arc c.args.arc c.loop-k.k)
 told c =
-    let tells = key_tells c.args.keyed.now (on_arc c.args.arc c.loop-k.k) (
-      omega (arith, c.requires.arc, length-map c.args.keyed.now.numbered.t.now.arcs.items path),
-      omega (
-        arith,
-        c.loop-k-test.true,
-        end_is c.args.keyed.now.numbered c.args.arc c.index-k-end.result.now c.requires.arc c.index-k-end.ensures,
-      ),
-    ) in (
-      λ on. tells.0 (subst (IsRepeat c.args.keyed.now.keys.now) c.arc_key.ensures (c.is_repeat.ensures.0 on)),
-      λ is. c.is_repeat.ensures.1 (subst (IsRepeat c.args.keyed.now.keys.now) (sym c.arc_key.ensures) (tells.1 is)),
-    )
+    let n = c.args.keyed.now.numbered in
+    let many = length-map n.t.now.arcs.items path in
+    let long = end_is n c.args.arc c.index-k-end.result.now c.requires.arc c.index-k-end.ensures in
+    let tells = key_tells c.args.keyed.now (on_arc c.args.arc c.loop-k.k)
+    (omega (arith, c.requires.arc, many), omega (arith, c.loop-k-test.true, long)) in
+    let told = rw (← c.arc_key.ensures) at tells in
+    (λ on. told.0 (c.is_repeat.ensures.0 on), λ is. c.is_repeat.ensures.1 (told.1 is))
 
 pub returns-then-is_repeat : goal.returns-then-is_repeat
 returns-then-is_repeat c =
@@ -35,8 +31,8 @@ loop-k-preserved c =
 pub returns : goal.returns
 returns c = (
   λ on. absurd (false≢true on),
-  λ has. absurd (c.loop-k.invariant has.0 (omega (
-    arith,
-    end_is c.args.keyed.now.numbered c.args.arc c.index-k-end.result.now c.requires.arc c.index-k-end.ensures,
-  )) has.1),
+  λ has.
+      let n = c.args.keyed.now.numbered in
+      let long = end_is n c.args.arc c.index-k-end.result.now c.requires.arc c.index-k-end.ensures in
+      absurd (c.loop-k.invariant has.0 (omega (arith, long)) has.1),
 )

@@ -1,13 +1,11 @@
-use Rattle.std.proofs.Common.{◌≡◌, ◌*◌, length, arith}
+use Rattle.std.proofs.Common.{rules, ◌≡◌, ◌*◌, length, arith}
 use Rattle.def_layout.specs.{Lengths.wide, Lengths.high, Layouts.gluing_of, Layouts.layout_of}
 use Rattle.qm_place.proofs.{Entries.rim_here, Entries.IsRimRead, placed.Placed.rim.Goals.After-index}
 use Rattle.{def_remesh.specs.NewPoints.lengths_in, qm_offsets.proofs.Spots.term_room}
 use Rattle.qm_place.proofs.placed.Placed.rim.Goals as goal
 
 read : (c : After-index) → IsRimRead c.args.self.now.t.now c.args.self.now.tables.now c.args.patch c.index.result.now
-read c =
-    let placed = c.args.self.now in
-    rim_here placed.t.now placed.placed c.requires.patch c.index.ensures
+read c = search (rules, rim_here)
 
 pub returns-clause-few : goal.returns-clause-few
 returns-clause-few c =

@@ -1,7 +1,7 @@
-use Rattle.std.proofs.Common.{◌≡◌, ◌-◌, ◌*◌, ◌<◌, ℕ, List, length, ◌∙◌, ap, arith}
+use Rattle.std.proofs.Common.{◌≡◌, ◌-◌, ◌*◌, ◌<◌, length, ◌∙◌, ap, arith}
 use Rattle.def_layout.specs.{Lengths.wide, Lengths.high, Layouts.gluing_of, Layouts.layout_of}
 use Rattle.def_written.specs.Numbers.{before_arc, before_patch}
-use Rattle.qm_place.proofs.{Casts.found_in, Casts.found_on, Casts.in_patch, Casts.on_arc, Entries.some_runs}
+use Rattle.qm_place.proofs.{Casts.found_in, Casts.found_on, Casts.in_patch, Casts.on_arc}
 use Rattle.{def_math.specs.Runs.run_at, def_remesh.specs.NewPoints.lengths_in, qm_place.specs.Lengthened.shares_by}
 use Rattle.qm_place.proofs.placed.Placed.spot_near.Goals as goal
 
@@ -31,19 +31,6 @@ returns-then-v-arcs_end c =
     c.spot_near-near.ensures.run (λ b. x b - 1) (length t.arcs) (rw c.deref.ensures.value are.along) in
     found_on t (shares_by c.args.self.now) x
     (omega (arith, c.if-v-nodes.false)) (ap (λ n. c.args.v - n) nodes) low same c.along_spot.ensures
-
-pub spot_near-near-requires-2 : goal.spot_near-near-requires-2
-spot_near-near-requires-2 c =
-    let are = c.args.self.now.placed in
-    let x = lengths_in c.args.self.now.tables.now.lengths.items in
-    let t = layout_of c.args.self.now.t.now in
-    let l = gluing_of t in
-    let low : c.args.v - c.arcs_end-arcs_end.result < before_patch l x (length t.patches) = omega arith in
-    omega (
-      arith,
-      some_runs (λ p. (wide l x p - 1) * (high l x p - 1)) (length t.patches) low,
-      ap (λ (xs : List ℕ). length xs) c.deref-2.ensures.value,
-    )
 
 pub inside_spot-requires : goal.inside_spot-requires
 inside_spot-requires c =
