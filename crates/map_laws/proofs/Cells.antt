@@ -1,7 +1,7 @@
 -- The new faces patch by patch: those of a patch stand one after the other, row by row.
-use Rattle.std.proofs.Common.{◌≡◌, ℕ, zero, suc, ◌+◌, ◌*◌, ◌/◌, ◌%◌, ◌<◌, List, [], ◌∷◌, ◌++◌, map, refl, sym, ◌∙◌, ap}
-use Rattle.std.proofs.Common.{ap₂, append_assoc, append-nil, arith, ◌-◌, ◌≤◌, subst, inl, inr}
-use Rattle.std.proofs.lemmas.Bool.{cases_lt, cond-true, cond-false, le-ltb, lt-ltb}
+use Rattle.std.proofs.Common.{rules, ◌≡◌, ℕ, zero, suc, ◌+◌, ◌*◌, ◌/◌, ◌%◌, ◌<◌, List, [], ◌∷◌, ◌++◌, map, refl, sym}
+use Rattle.std.proofs.Common.{◌∙◌, ap, ap₂, append_assoc, append-nil, arith, ◌-◌, ◌≤◌, subst}
+use Rattle.std.proofs.lemmas.Bool.{cond-true, lt-ltb}
 use Rattle.std.proofs.{lemmas.Grind.flat_map-append, lemmas.List.FromFn.map-range_with_len_more, Math.Nat.mul_comm}
 use Rattle.std.specs.{List.flat_map, List.range_with_len, Prelude.nat_lt}
 use Rattle.def_layout.specs.{Lengths.Lengths, Lengths.wide, Lengths.high, Cells.CellDart, Cells.dart, Gluings.south}
@@ -15,8 +15,7 @@ use Rattle.{list_laws.proofs.Filters.map_range_same, def_math.specs.Runs.run_at}
 -- Numbers up to a sum are those up to its first term, and as many behind them as the other.
 range_join : {X : Type 0} (item : ℕ → X) (a n : ℕ) → map item (range_with_len 0 (a + n))
     ≡ map item (range_with_len 0 a) ++ map (λ k. item (a + k)) (range_with_len 0 n)
-range_join item a zero =
-    let e : a + zero ≡ a = omega arith in cc (append-nil (map item (range_with_len 0 a)))
+range_join item a zero = search rules
 range_join item a (suc n) =
     let e : a + suc n ≡ a + n + 1 = omega arith in
     let one : n + 1 ≡ suc n = omega arith in
@@ -70,8 +69,7 @@ module _ (l : Gluing) (x : Lengths) where
     where
       here : n < l.patches → map (λ k. item (cell_dart n k)) (range_with_len 0 (wide l x n * high l x n))
           ≡ map (λ k. item (dart_of l x (cells_before l x n + k) south)) (range_with_len 0 (wide l x n * high l x n))
-      here n_low = map_range_same (λ k. item (cell_dart n k)) (λ k. item (dart_of l x (cells_before l x n + k) south)) 0
-          (wide l x n * high l x n) (λ k from less. ap item (sym (cell_is n k n_low (omega (arith, less)))))
+      here n_low = search (rules, map_range_same, cell_is)
 
 -- The point with a number.
 
@@ -82,13 +80,11 @@ module _ (l : Gluing) (new : Lengths) where
 
   pub at_arc : (v : ℕ) → l.nodes ≤ v → v < l.nodes + before_arc new l.arcs
       → point_at l new v ≡ along_arcs l new (v - l.nodes)
-  at_arc v from low = cond-false (nat_lt v l.nodes) _ _ (le-ltb _ _ from) ∙ cond-true
-      (nat_lt v (l.nodes + before_arc new l.arcs)) _ _ (lt-ltb _ _ low)
+  at_arc v from low = search rules
 
   pub at_patch : (v : ℕ) → l.nodes + before_arc new l.arcs ≤ v
       → point_at l new v ≡ inside_patches l new (v - (l.nodes + before_arc new l.arcs))
-  at_patch v from = cond-false (nat_lt v l.nodes) _ _ (le-ltb _ _ (omega arith)) ∙ cond-false
-      (nat_lt v (l.nodes + before_arc new l.arcs)) _ _ (le-ltb _ _ from)
+  at_patch v from = search rules
 
   along_is : (t : ℕ) → t < before_arc new l.arcs → IsPoint l new (along_arcs l new t)
   along_is t low =
@@ -106,10 +102,4 @@ module _ (l : Gluing) (new : Lengths) where
 
   -- Each number below that of the vertices is that of a point.
   pub is_point : (v : ℕ) → v < vertices l new → IsPoint l new (point_at l new v)
-  is_point v low = elim (cases_lt v l.nodes) [
-    | inl less ↦ subst (IsPoint l new) (sym (at_node v less)) less
-    | inr le ↦ elim (cases_lt v (l.nodes + before_arc new l.arcs)) [
-      | inl less ↦ subst (IsPoint l new) (sym (at_arc v le less)) (along_is _ (omega arith))
-      | inr past ↦ subst (IsPoint l new) (sym (at_patch v past)) (inside_is _ (omega arith))
-    ]
-  ]
+  is_point v low = search (rules, along_is, inside_is)

@@ -1,5 +1,5 @@
 -- The parameters of the places of sides and of grid points: at the ends of sides, and how large they are.
-use Rattle.std.proofs.Common.{◌≡◌, ℕ, zero, suc, ◌+◌, ◌-◌, ◌*◌, ◌/◌, ◌<◌, ◌≤◌, not, ap, inl, inr, arith}
+use Rattle.std.proofs.Common.{rules, ◌≡◌, ℕ, zero, suc, ◌+◌, ◌-◌, ◌*◌, ◌/◌, ◌<◌, ◌≤◌, not, ap, inl, inr, arith}
 use Rattle.std.proofs.{lemmas.Bool.cases_eq, lemmas.Bool.cases_lt, lemmas.Nat.mul-le}
 use Rattle.def_layout.specs.Lengths.{Lengths, reach, size, wide, high, AreLengths}
 use Rattle.def_layout.specs.{Gluings.Way, Gluings.south, Gluings.east, Gluings.north, Gluings.west, Gluings.Gluing}
@@ -29,8 +29,7 @@ module _ (l : Gluing) (old new : Lengths) (spacing : ArcSpacing) (laid : IsSurfa
     (n_len : AreLengths l new) (spaced : IsSpacing l old new spacing) where
   -- The last arc of a side lies at its end.
   over_end : (p : ℕ) (s : Way) → p < l.patches → use_over l new p s (size l new p s) ≡ l.many p s - 1
-  over_end p s low = run_last _ _ _ (laid.paved.sides_full p s low)
-      (omega (arith, last_reach l new laid.paved n_len p s low))
+  over_end p s low = search (rules, run_last, last_reach)
 
   last_low : (p : ℕ) (s : Way) → p < l.patches → (l.use_at p s (l.many p s - 1)).arc < l.arcs
   last_low p s low = laid.paved.arc_low (slot p s (l.many p s - 1))
@@ -48,13 +47,7 @@ module _ (l : Gluing) (old new : Lengths) (spacing : ArcSpacing) (laid : IsSurfa
 
   -- Counted from the end of the side it is 0 there,
   pub back_end : (p : ℕ) (s : Way) → p < l.patches → parameter_back l old new spacing p s (size l new p s) ≡ 0
-  back_end p s low =
-      let used = l.use_at p s (l.many p s - 1) in
-      let none : new used.arc - (size l new p s - reach l new p s (l.many p s - 1)) ≡ 0 =
-      omega (arith, last_reach l new laid.paved n_len p s low) in
-      let e : l.many p s - 1 + 1 ≡ l.many p s = omega (arith, laid.paved.sides_full p s low) in
-      let whole : reach l old p s (l.many p s - 1 + 1) ≡ size l old p s = ap (reach l old p s) e in
-      rw (over_end p s low, none) (omega (arith, spaced.begins used.arc (not used.forward) (last_low p s low)))
+  back_end p s low = search (rules, over_end, last_low)
 
   -- and the old length at its beginning.
   pub back_begin : (p : ℕ) (s : Way) → p < l.patches → parameter_back l old new spacing p s 0 ≡ ONE * size l old p s

@@ -1,27 +1,21 @@
 -- The number that digits write, digit by digit and in parts.
-use Rattle.std.proofs.Common.{◌≡◌, ℕ, ◌+◌, ◌-◌, ◌*◌, ◌^◌, ◌<◌, ◌≤◌, true, List, [], ◌∷◌, ◌++◌, length, take, drop}
-use Rattle.std.proofs.Common.{get_or, sym, ap, ◌∙◌, arith, zero, suc, min, inl, inr, false, ◌&&◌, eqb, refl, ℤ, ◌/◌}
-use Rattle.std.proofs.Common.{pos, negsuc, ◌-ℤ◌, ◌+ℤ◌, neg_ℤ, cond, ltb, subst}
+use Rattle.std.proofs.Common.{rules, ◌≡◌, ℕ, ◌+◌, ◌-◌, ◌*◌, ◌^◌, ◌<◌, ◌≤◌, true, List, [], ◌∷◌, ◌++◌, length, take}
+use Rattle.std.proofs.Common.{drop, get_or, sym, ap, ◌∙◌, arith, zero, suc, min, inl, inr, false, ◌&&◌, eqb, refl, ℤ}
+use Rattle.std.proofs.Common.{◌/◌, pos, negsuc, ◌-ℤ◌, ◌+ℤ◌, neg_ℤ, cond, ltb, subst}
 use Rattle.std.proofs.lemmas.List.{map-append, map_push, take_more, take-append-drop, length-drop, length-map}
 use Rattle.std.proofs.lemmas.Bool.{and_parts, and_from, cases_lt, false≢true, lt-ltb, le-ltb}
 use Rattle.std.proofs.Math.Nat.{pow-suc, mul-le-mul_right, pow-le-pow_right, pow-succ', div-eq_of_lt, div-eq_of_lt-le}
 use Rattle.std.proofs.{lemmas.Int.Digits.number_after_append, lemmas.List.Folds.list_all-append, lemmas.Int.ints}
 use Rattle.std.proofs.{lemmas.List.Sums.AllPass-from_list_all}
-use Rattle.def_text.specs.{Digits.number_written, Digits.is_number, Digits.signed, Digits.unsigned, Decimal.is_exponent}
-use Rattle.def_text.specs.{Decimal.power, Decimal.scaled}
+use Rattle.def_text.specs.{Digits.number_written, Digits.is_number, Digits.unsigned, Decimal.is_exponent, Decimal.power}
+use Rattle.def_text.specs.{Decimal.scaled}
 use Rattle.{std.specs.Int.Digits.number_from_digits, std.specs.Int.Digits.number_from_digits_after}
 use Rattle.{std.specs.Char.is_ascii_digit, std.specs.List.list_all, qm_dec.specs.Sizes.clamped}
 use Rattle.{qm_scan.proofs.Numbers.values, qm_scan.proofs.Numbers.number_small, qm_scan.proofs.Numbers.digit_small}
 
 -- what is made of a clamped number by a factor and a summand is clamped like what is made of the number
 pub clamp_linear : (n q r : ℕ) → 1 ≤ q → clamped (clamped n * q + r) ≡ clamped (n * q + r)
-clamp_linear n q r one = elim (cases_lt n (10 ^ 15)) [
-  | inl less ↦ let e : clamped n ≡ n = omega arith in ap (λ x. clamped (x * q + r)) e
-  | inr more ↦
-      let e : clamped n ≡ 10 ^ 15 = omega arith in
-      let b : 10 ^ 15 * q ≤ n * q = mul-le-mul_right q more in
-      ap (λ x. clamped (x * q + r)) e ∙ omega arith
-]
+clamp_linear n q r one = search rules
 
 pub clamp_scaled : (n q : ℕ) → 1 ≤ q → clamped (clamped n * q) ≡ clamped (n * q)
 clamp_scaled n q one = ap clamped (omega arith) ∙ clamp_linear n q 0 one ∙ ap clamped (omega arith)
@@ -68,12 +62,7 @@ number_append xs ys = ap (number_from_digits 10) (map-append (λ d. d - 48) xs y
 -- a loop over one run of digits and then another, which may take a clamped number for the number
 pub two_parts : (xs ys : List ℕ) (a b : ℕ) → a ≡ clamped (number_written xs)
     → b ≡ clamped (number_from_digits_after 10 a (values ys)) → b ≡ clamped (number_written (xs ++ ys))
-two_parts xs ys a b p q =
-    let n = number_written xs in
-    let vs = values ys in
-    q ∙ ap (λ m. clamped (number_from_digits_after 10 m vs)) p ∙ ap clamped (after_is (clamped n) vs)
-    ∙ clamp_linear n (10 ^ length vs) (number_from_digits 10 vs) (ten_power (length vs))
-    ∙ ap clamped (sym (number_append xs ys ∙ after_is n vs))
+two_parts xs ys a b p q = search (rules, after_is, ten_power, number_append)
 
 -- digits before a place, and from it on
 pub digits_split : (ds : List ℕ) (i : ℕ) → list_all is_ascii_digit ds ≡ true
@@ -101,9 +90,6 @@ number_parts (x ∷ xs) ys is = and_parts _ _ (sym (list_all-append is_ascii_dig
 -- an exponent by what stands behind its mark
 pub exponent_is : (xs : List ℕ) → 0 < length xs → is_exponent xs ≡ is_number (unsigned (drop 1 xs))
 exponent_is xs l = grind (arith)
-
-pub power_is : (xs : List ℕ) → 0 < length xs → power xs ≡ signed (drop 1 xs)
-power_is xs l = grind (arith)
 
 pub some_from : (xs : List ℕ) → false ≡ eqb (length xs) 0 → 0 < length xs
 some_from xs e = grind (arith)
@@ -163,17 +149,10 @@ power_down ds f p all short = let at = λ (z : ℤ). clamped (scaled (number_wri
 
 pub power_up : (n f p : ℕ) → f ≤ 64 → clamped (scaled n (pos (6 + min p 1000) -ℤ pos f))
     ≡ clamped (scaled n ((pos p +ℤ pos 6) -ℤ pos f))
-power_up n f p short = let at = λ (z : ℤ). clamped (scaled n z) in elim (cases_lt p 1001) [
-  | inl l ↦ let e : pos (6 + min p 1000) -ℤ pos f ≡ (pos p +ℤ pos 6) -ℤ pos f = omega (arith, ints) in ap at e
-  | inr g ↦
-      let a : pos (6 + min p 1000) -ℤ pos f ≡ pos (1006 - f) = omega (arith, ints) in
-      let b : (pos p +ℤ pos 6) -ℤ pos f ≡ pos (p + 6 - f) = omega (arith, ints) in
-      ap at a ∙ both_far n (1006 - f) (p + 6 - f) (omega arith) (omega arith) ∙ sym (ap at b)
-]
+power_up n f p short = search (rules, both_far)
 
 -- a cut where the number of digits that stay is known
 pub cut_is : (ds : List ℕ) (i last v x w : ℕ) → list_all is_ascii_digit ds ≡ true → 1 ≤ last → i + last ≡ length ds
     → v ≡ clamped (number_written (take i ds)) → x ≡ get_or ds i 0 → w ≡ clamped (v + cond (ltb x 53) 0 1)
     → w ≡ clamped (scaled (number_written ds) (negsuc (last - 1)))
-cut_is ds i last v x w all one e is digit next =
-    next ∙ rw digit (omega arith) ∙ ap clamped (sym (cut_exact ds i (last - 1) all (omega arith)))
+cut_is ds i last v x w all one e is digit next = search (rules, cut_exact)

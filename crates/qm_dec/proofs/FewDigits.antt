@@ -1,8 +1,8 @@
 -- Decimals of few digits without an exponent.
-use Rattle.std.proofs.Common.{◌≡◌, ℕ, ◌+◌, ◌-◌, ◌*◌, ◌^◌, ◌<◌, ◌≤◌, min, true, List, [], ◌∷◌, ◌++◌, length, take, drop}
-use Rattle.std.proofs.Common.{get_or, sym, ap, ◌∙◌, refl, arith}
+use Rattle.std.proofs.Common.{rules, ◌≡◌, ℕ, ◌+◌, ◌-◌, ◌*◌, ◌^◌, ◌<◌, ◌≤◌, min, true, List, [], ◌∷◌, ◌++◌, length, take}
+use Rattle.std.proofs.Common.{drop, get_or, sym, ap, ◌∙◌, refl, arith}
 use Rattle.std.proofs.lemmas.List.{append-nil, length-map, length-take, nil_from_length, take-append-drop, take-take}
-use Rattle.std.proofs.Math.Nat.{mul-le-mul_left, mul-le-mul_right, mul_assoc, pow-le-pow_right}
+use Rattle.std.proofs.Math.Nat.{mul-le-mul_right, mul_assoc, pow-le-pow_right}
 use Rattle.std.proofs.{lemmas.Nat.pow-add, Math.Seq.drop-cons}
 use Rattle.std.specs.{Char.is_ascii_digit, Int.Digits.number_from_digits_after, List.list_all}
 use Rattle.def_text.specs.Digits.{number_written, unsigned}
@@ -23,10 +23,7 @@ after_small n ds few all =
 
 pub after_room : (n : ℕ) (ds : List ℕ) (i : ℕ) → n < 10 ^ 9 → list_all is_ascii_digit (take i ds) ≡ true → length ds ≤ 9
     → number_from_digits_after 10 n (values (take i ds)) < 10 ^ 18
-after_room n ds i few all short =
-    let power : 10 ^ length (take i ds) ≤ 10 ^ 9 = ten_most (length (take i ds)) 9 (omega (arith, length-take i ds)) in
-    let product : 10 ^ 9 * 10 ^ length (take i ds) ≤ 10 ^ 9 * 10 ^ 9 = mul-le-mul_left (10 ^ 9) power in
-    omega (arith, after_small n (take i ds) few all)
+after_room n ds i few all short = search (rules, length-take, after_small)
 
 -- Nine digits and six more are in range.
 pub size_small : (w : ℕ) (ys : List ℕ) → w < 10 ^ 9 → list_all is_ascii_digit ys ≡ true → length ys ≤ 6
@@ -64,15 +61,7 @@ pub record IsPrefix (body : List ℕ) (count n : ℕ) : Type 0 where
 pub prefix_is : {body : List ℕ} {most count n : ℕ} → most ≡ min (length body) 9 → count ≤ length (take most body)
     → list_all is_ascii_digit (take count (take most body)) ≡ true
     → n ≡ number_written (take count (take most body)) → IsPrefix body count n
-prefix_is {body} {most} {count} {n} is within all value =
-    let few : length (take most body) ≡ min most (length body) = length-take most body in
-    let same : take count (take most body) ≡ take count body = take-take count most body (omega arith) in
-    record {
-      long = length-take count body ∙ omega arith;
-      nine = omega arith;
-      all = rw same at all;
-      is = rw same at value;
-    }
+prefix_is {body} {most} {count} {n} is within all value = search (rules, take-take)
 
 pub prefix_small : {body : List ℕ} {count n : ℕ} → IsPrefix body count n → n < 10 ^ 9
 prefix_small {body} {count} prefix =

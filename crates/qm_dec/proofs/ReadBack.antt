@@ -1,24 +1,23 @@
 -- Numbers as they are printed: their digits, their value, their length, and where other bytes stand among them.
-use Rattle.std.proofs.Common.{◌≡◌, ℕ, ◌+◌, ◌%◌, ◌^◌, ◌<◌, Bool, true, false, not, cond, eqb, List, [], ◌∷◌, ◌++◌}
+use Rattle.std.proofs.Common.{rules, ◌≡◌, ℕ, ◌+◌, ◌%◌, ◌^◌, ◌<◌, Bool, true, false, not, cond, eqb, List, [], ◌∷◌, ◌++◌}
 use Rattle.std.proofs.Common.{length, ap, ◌∙◌, refl, arith, get_or, ◌≤◌, take, drop, sym, ap₂, ◌-◌, ◌/◌, set, zero, suc}
-use Rattle.std.proofs.Common.{◌*◌, ℤ, pos, negsuc, ◌+ℤ◌, ◌-ℤ◌, neg_ℤ, inl, inr, length-append}
-use Rattle.std.proofs.lemmas.Bool.{not-true, and_parts, and_from, le-leb, not_from_true, not_from_false, ne_eqb}
-use Rattle.std.proofs.lemmas.Bool.{false≢true, eqb-true, or_from, le-ltb, cases_eq, cond-true, cond-false, cases_Bool}
-use Rattle.std.proofs.lemmas.List.Sums.{list_all-from_AllPass, AllPass-from_list_all, position_or_len_is}
-use Rattle.std.proofs.lemmas.List.Sums.{passes_at_first, suffix_len-le-length}
+use Rattle.std.proofs.Common.{◌*◌, pos, negsuc, neg_ℤ, inl, inr, length-append}
+use Rattle.std.proofs.lemmas.Bool.{not-true, and_parts, and_from, le-leb, not_from_true, ne_eqb, false≢true, eqb-true}
+use Rattle.std.proofs.lemmas.Bool.{or_from, le-ltb, cases_eq, cond-true, cond-false, cases_Bool}
+use Rattle.std.proofs.lemmas.List.{Sums.list_all-from_AllPass, Sums.AllPass-from_list_all, Sums.position_or_len_is}
+use Rattle.std.proofs.lemmas.List.{Sums.passes_at_first, Sums.suffix_len-le-length, get_or-drop, length-drop, take_at}
+use Rattle.std.proofs.lemmas.List.{drop_at, take-append-drop, reverse-append, take-append-le, take_all, length_push}
+use Rattle.std.proofs.lemmas.List.{length-take, drop_all, take_more, length-map, append-nil}
 use Rattle.std.proofs.lemmas.Fmt.{decimal_by_steps, length-decimal-le, decimal_digit, decimal_step, decimal_nonempty}
-use Rattle.std.proofs.lemmas.List.{get_or-drop, length-drop, take_at, drop_at, take-append-drop, reverse-append}
-use Rattle.std.proofs.lemmas.List.{take-append-le, take_all, length_push, length-take, drop_all, take_more, length-map}
-use Rattle.std.proofs.lemmas.List.{append-nil}
-use Rattle.std.proofs.{lemmas.List.Folds.list_all-append, Math.Seq.drop-cons, Math.Seq.drop-append-add, lemmas.Int.ints}
+use Rattle.std.proofs.{lemmas.List.Folds.list_all-append, Math.Seq.drop-cons, Math.Seq.drop-append-add}
 use Rattle.std.proofs.{lemmas.Nat.pow-add, Math.Nat.pow-suc}
 use Rattle.std.specs.{Prelude.decimal, Char.is_ascii_digit, List.list_all, List.position_or_len, List.prefix_len}
 use Rattle.std.specs.{List.suffix_len, List.before_first}
 use Rattle.def_text.specs.Canonical.{fraction_text, six_digits, without_zeros, micro_text}
-use Rattle.def_text.specs.Decimal.{all_digits, exponent, fraction_digits, is_decimal, is_exponent, is_mark, is_point}
-use Rattle.def_text.specs.Decimal.{mantissa, power, rounded_size, scaled}
-use Rattle.def_text.specs.{Digits.number_written, Digits.is_negative, Digits.is_number, Digits.unsigned}
-use Rattle.def_text.specs.{Corner.is_slash, Ratio.IsRatio, Laws.CanonicalLaw}
+use Rattle.def_text.specs.Decimal.{all_digits, exponent, fraction_digits, is_decimal, is_mark, is_point, mantissa}
+use Rattle.def_text.specs.Decimal.{rounded_size}
+use Rattle.def_text.specs.{Digits.number_written, Digits.is_negative, Digits.unsigned, Corner.is_slash, Ratio.IsRatio}
+use Rattle.def_text.specs.{Laws.CanonicalLaw}
 use Rattle.qm_dec.proofs.Digits.{number_append, after_is, digits_split, number_both}
 use Rattle.qm_scan.proofs.Numbers.{digit_small, values}
 
@@ -49,8 +48,7 @@ first_at b (x ∷ xs) y ys all is = let p = and_parts (not (b x)) (list_all (λ 
 -- no digit passes a test that passes none
 pub digits_fail : (b : ℕ → Bool) → ((d : ℕ) → is_ascii_digit d ≡ true → b d ≡ false) → (xs : List ℕ)
     → list_all is_ascii_digit xs ≡ true → list_all (λ x. not (b x)) xs ≡ true
-digits_fail b other xs all = list_all-from_AllPass (λ x. not (b x)) xs (λ i d low.
-    not_from_false (b (get_or xs i d)) (other (get_or xs i d) (AllPass-from_list_all is_ascii_digit xs all i d low)))
+digits_fail b other xs all = search (rules, list_all-from_AllPass, AllPass-from_list_all)
 
 -- no digit is this byte, below the digits
 pub digit_other : (c : ℕ) → c < 48 → (d : ℕ) → is_ascii_digit d ≡ true → eqb d c ≡ false
@@ -65,12 +63,7 @@ not_printed word e n l is = false≢true (e ∙ ap (list_all is_ascii_digit) is 
 -- what stands before the slash of a ratio, and behind it
 pub sides : (word : List ℕ) (p q : ℕ) → IsRatio word p q → (take (position_or_len is_slash word) word ≡ decimal p)
     × (drop (position_or_len is_slash word) word ≡ 47 ∷ decimal q)
-sides word p q r =
-    let place : position_or_len is_slash word ≡ length (decimal p) =
-    ap (position_or_len is_slash) r.written ∙ first_at is_slash (decimal p) 47 (decimal q)
-    (digits_fail is_slash (digit_other 47 (omega arith)) (decimal p) (decimal_digits p
-    (omega (arith, r.p_high)))) refl in
-    rw (place, r.written) (take_at (decimal p) (47 ∷ decimal q) _ refl, drop_at (decimal p) (47 ∷ decimal q) _ refl)
+sides word p q r = search (rules, first_at, digits_fail, decimal_digits, take_at, drop_at)
 
 pub above_is : (word : List ℕ) (p q : ℕ) → IsRatio word p q → take (position_or_len (λ b. eqb b 47) word) word
     ≡ decimal p
@@ -235,18 +228,12 @@ pointed_parts word ds ys is all rest =
 -- the value of such a word
 pub parts_size : (word digits fraction : List ℕ) → HasParts word digits fraction → length fraction ≤ 6
     → rounded_size word ≡ number_written digits * 10 ^ (6 - length fraction)
-parts_size word digits fraction h short =
-    let e : (power (exponent word) +ℤ pos 6) -ℤ pos (length (fraction_digits word)) ≡ pos (6 - length fraction) =
-    ap (λ (xs : List ℕ). (power xs +ℤ pos 6) -ℤ pos (length (fraction_digits word))) h.no_power
-    ∙ ap (λ (fs : List ℕ). pos 6 -ℤ pos (length fs)) h.behind ∙ omega (arith, ints) in
-    ap (λ (z : ℤ). scaled (number_written (all_digits word)) z) e
-    ∙ ap (λ (ds : List ℕ). number_written ds * 10 ^ (6 - length fraction)) h.all
+parts_size word digits fraction h short = search rules
 
 -- a short word with such parts is a decimal
 pub parts_form : {word fs : List ℕ} (ds : List ℕ) → HasParts word (ds ++ fs) fs → length word ≤ 64 → 0 < length ds
     → list_all is_ascii_digit ds ≡ true → list_all is_ascii_digit fs ≡ true → is_decimal word ≡ true
-parts_form {word} {fs} ds h short some all rest = and_from _ _ (le-leb (length word) 64 short) (and_from _ _
-    (ap is_number h.all ∙ number_both ds fs (omega arith) ∙ and_from _ _ all rest) (ap is_exponent h.no_power))
+parts_form {word} {fs} ds h short some all rest = search (rules, number_both)
 
 -- the word is a decimal of this size
 pub record ReadsAs (word : List ℕ) (n : ℕ) : Type 0 where
@@ -293,16 +280,10 @@ body_reads word n l short is =
 no_sign : (ds fs : List ℕ) → 0 < length ds → list_all is_ascii_digit ds ≡ true → (unsigned (ds ++ fs) ≡ ds ++ fs)
     × (is_negative (ds ++ fs) ≡ false)
 no_sign [] fs l all = absurd (omega arith)
-no_sign (d ∷ ds) fs l all =
-    let is : is_ascii_digit d ≡ true = (and_parts _ _ all).0 in (
-      cond-false _ _ _ (or_from _ _ (digit_other 43 (omega arith) d is) (digit_other 45 (omega arith) d is)),
-      digit_other 45 (omega arith) d is,
-    )
+no_sign (d ∷ ds) fs l all = search rules
 
 text_short : (n : ℕ) → n ≤ 999_999_999_999_999 → length (decimal (n / 10 ^ 6) ++ fraction_text (n % 10 ^ 6)) ≤ 16
-text_short n l =
-    let long = length-append (decimal (n / 10 ^ 6)) (fraction_text (n % 10 ^ 6)) in
-    omega (arith, whole_short n l, fraction_short (n % 10 ^ 6) (omega arith))
+text_short n l = search (rules, length-append, whole_short, fraction_short)
 
 pub canonical_law : CanonicalLaw
 canonical_law (pos n) l =

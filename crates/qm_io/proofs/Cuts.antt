@@ -1,33 +1,31 @@
 -- Facts on bytes that move between a program and its streams.
-use Rattle.std.proofs.Common.{◌≡◌, ℕ, ◌+◌, ◌-◌, ◌≤◌, List, ◌++◌, Option, Some, None, length, take, drop, refl, sym, ◌∙◌}
-use Rattle.std.proofs.Common.{ap, arith, append_assoc, length-drop, [], false, if◌then◌else◌, length-append}
-use Rattle.std.proofs.Common.{slice_index, slice_index_or, inl, inr, map, suc, true, zero, ◌<◌, ◌==◌, ◌∷◌, get_or}
-use Rattle.std.proofs.Common.{subst, ◌⊎◌}
+use Rattle.std.proofs.Common.{rules, ◌≡◌, ℕ, ◌+◌, ◌-◌, ◌≤◌, List, ◌++◌, Option, Some, None, length, take, drop, refl}
+use Rattle.std.proofs.Common.{sym, ◌∙◌, ap, arith, append_assoc, length-drop, [], false, if◌then◌else◌, length-append}
+use Rattle.std.proofs.Common.{slice_index, slice_index_or, inl, inr, map, suc, true, zero, ◌<◌, ◌==◌, ◌∷◌, get_or, ◌⊎◌}
 use Rattle.std.proofs.lemmas.List.{take_rest, drop-drop, get_or-map, length-map, take_at, get_or-drop, take-append-drop}
 use Rattle.std.proofs.lemmas.List.{drop-map, drop_at, take-map, get_or_append_left, map-append}
 use Rattle.std.proofs.lemmas.Bool.{cases_Bool, false_from_ne_true, or_from, cases_lt}
-use Rattle.std.proofs.{Math.Seq.take-add, Math.Seq.drop-cons, Math.Seq.get_or-append_seam}
-use Rattle.std.proofs.{lemmas.List.Concat.flat_map-append}
+use Rattle.{std.proofs.Math.Seq.take-add, std.proofs.Math.Seq.drop-cons, std.proofs.Math.Seq.get_or-append_seam}
+use Rattle.{std.proofs.lemmas.List.Concat.flat_map-append, qm_io.specs.Ends.ends_from, qm_io.specs.WordLists.ReadsSome}
 use Rattle.std.specs.{List.flat_map, List.list_any, Prelude.IfSome, Str.IsUtf8}
 use Rattle.def_io.specs.{Moves.gave, Moves.took, Lines.byte_in_front, Lines.line_of, Lines.lines_of, Lines.pieces}
 use Rattle.def_io.specs.{Lines.tail_of, Bytes.Bytes, Bytes.Lines, Words.IsReadAs, Words.IsReadAt, Words.IsWordAt}
-use Rattle.qm_io.specs.{Ends.ends_from, WordLists.ReadsSome}
 
 -- A sink that took a prefix, and then a prefix of the rest, took a prefix.
 pub took-split : (before : Option (List ℕ)) (k n : ℕ) (xs : List ℕ)
     → took (took before (take k xs)) (take n (drop k xs)) ≡ took before (take (k + n) xs)
-took-split None k n xs = refl
-took-split (Some all) k n xs =
-    ap Some (append_assoc all (take k xs) (take n (drop k xs)) ∙ ap (λ ys. all ++ ys) (sym (take-add k n xs)))
+took-split before k n = search (rules, append_assoc, take-add)
+
+-- Where what is left stands after `n` bytes more.
+left_place : (piece rest : List ℕ) (n : ℕ) → n ≤ length rest → rest ≡ drop (length piece - length rest) piece
+    → (length piece - length rest) + n ≡ length piece - length (take (length rest - n) (drop n rest))
+left_place piece rest n fits is = search (rules, length-drop)
 
 -- What is left after `n` bytes more of the rest is again a rest.
 pub rest_more : (piece rest : List ℕ) (n : ℕ) → n ≤ length rest → rest ≡ drop (length piece - length rest) piece
     → take (length rest - n) (drop n rest) ≡ drop (length piece - length (take (length rest - n) (drop n rest))) piece
-rest_more piece rest n fits is =
-    let left : take (length rest - n) (drop n rest) ≡ drop n rest = take_rest rest n in
-    let place : (length piece - length rest) + n ≡ length piece - length (take (length rest - n) (drop n rest)) =
-    omega (arith, ap length left, length-drop n rest, ap length is, length-drop (length piece - length rest) piece) in
-    left ∙ ap (drop n) is ∙ drop-drop n (length piece - length rest) piece ∙ ap (λ (m : ℕ). drop m piece) place
+rest_more piece rest n fits is = take_rest rest n ∙ ap (drop n) is
+    ∙ drop-drop n (length piece - length rest) piece ∙ ap (λ (m : ℕ). drop m piece) (left_place piece rest n fits is)
 
 -- A sink that took `n` bytes more of the rest took the prefix up to what is left.
 pub prefix_more : (before mid now : Option (List ℕ)) (piece rest : List ℕ) (n : ℕ) → n ≤ length rest
@@ -35,24 +33,16 @@ pub prefix_more : (before mid now : Option (List ℕ)) (piece rest : List ℕ) (
     → now ≡ took mid (take n rest)
     → now ≡ took before (take (length piece - length (take (length rest - n) (drop n rest))) piece)
 prefix_more before mid now piece rest n fits is prefix more =
-    let left : take (length rest - n) (drop n rest) ≡ drop n rest = take_rest rest n in
-    let place : (length piece - length rest) + n ≡ length piece - length (take (length rest - n) (drop n rest)) =
-    omega (arith, ap length left, length-drop n rest, ap length is, length-drop (length piece - length rest) piece) in
     more
     ∙ ap (λ (o : Option (List ℕ)). took o (take n rest)) prefix
     ∙ ap (λ (xs : List ℕ). took (took before (take (length piece - length rest) piece)) (take n xs)) is
     ∙ took-split before (length piece - length rest) n piece
-    ∙ ap (λ (m : ℕ). took before (take m piece)) place
+    ∙ ap (λ (m : ℕ). took before (take m piece)) (left_place piece rest n fits is)
 
 -- Two pieces that a source gave one after the other are one piece.
 pub gave_more : (before mid now : Option (List ℕ)) (old piece new : List ℕ) → new ≡ old ++ piece
     → before ≡ gave old mid → mid ≡ gave piece now → before ≡ gave new now
-gave_more before mid now old piece new grown first second =
-    first ∙ ap (gave old) second ∙ joined now ∙ ap (λ (xs : List ℕ). gave xs now) (sym grown)
-  where
-    joined : (o : Option (List ℕ)) → gave old (gave piece o) ≡ gave (old ++ piece) o
-    joined None = refl
-    joined (Some rest) = ap Some (sym (append_assoc old piece rest))
+gave_more before mid now old piece new h1 h2 h3 = search (rules, append_assoc)
 
 -- Facts on the pieces of a text and on the positions after them.
 
@@ -79,10 +69,7 @@ flat-in_front b (p ∷ ps) = refl
 -- The pieces joined are the text.
 pub flat-pieces : (bs : List ℕ) → flat_map (λ p. p) (pieces bs) ≡ bs
 flat-pieces [] = refl
-flat-pieces (b ∷ bs) = elim (cases_Bool (b == 10)) [
-  | inl is ↦ rw is (ap (λ xs. b ∷ xs) (flat-pieces bs))
-  | inr off ↦ rw off (flat-in_front b (pieces bs) ∙ ap (λ xs. b ∷ xs) (flat-pieces bs))
-]
+flat-pieces (b ∷ bs) = search (rules, flat-pieces bs)
 
 -- The position where piece `i` begins.
 abbrev pub begin : ℕ → List (List ℕ) → ℕ → ℕ
@@ -102,8 +89,7 @@ drop-prefix (b ∷ p) xs (suc n) k is = drop-prefix p xs n k (omega arith)
 -- From the position where a piece begins on stand that piece and all later ones.
 pub drop-begin : (s k : ℕ) (ps : List (List ℕ)) (i : ℕ) → i ≤ length ps → s + k ≡ begin s ps i
     → drop k (flat_map (λ p. p) ps) ≡ flat_map (λ p. p) (drop i ps)
-drop-begin s k ps zero l is =
-    let none : k ≡ 0 = omega arith in ap (λ m. drop m (flat_map (λ p. p) ps)) none
+drop-begin s k ps zero l is = search rules
 drop-begin s k [] (suc i) l is = absurd (omega arith)
 drop-begin s k (p ∷ ps) (suc i) l is =
     let low : s + length p ≤ begin (s + length p) ps i = begin-high (s + length p) ps i (omega arith) in
@@ -189,59 +175,26 @@ none_in_front [] (suc k) none = refl
 none_in_front (b ∷ bs) (suc k) none = or_from _ _ (false_from_ne_true (b == 10) (none 0 (omega arith)))
     (none_in_front bs k (λ j l. none (suc j) (omega arith)))
 
--- A text whose lines are cut off one after another.
-
--- ---- Texts of the first pieces and of the last ones.
-
-feed_first : (b : ℕ) (bs : Bytes) → (b == 10) ≡ true → pieces (b ∷ bs) ≡ (b ∷ []) ∷ pieces bs
-feed_first b bs is = rw is refl
-
-other_first : (b : ℕ) (bs : Bytes) → (b == 10) ≡ false → pieces (b ∷ bs) ≡ byte_in_front b (pieces bs)
-other_first b bs off = rw off refl
+-- Texts of the first pieces and of the last ones.
 
 -- A byte in front of the first piece is in front of all bytes, of the first pieces, and of none of the last.
 front_flat : (b : ℕ) (ps : Lines) (i : ℕ) → flat_map (λ p. p) (take (suc i) (byte_in_front b ps))
     ≡ b ∷ flat_map (λ p. p) (take (suc i) ps)
-front_flat b [] zero = refl
-front_flat b [] (suc i) = refl
-front_flat b (p ∷ ps) i = refl
+front_flat b ps = search rules
 
 front_take : (b : ℕ) (ps : Lines) (i : ℕ) → byte_in_front b (take (suc i) ps) ≡ take (suc i) (byte_in_front b ps)
-front_take b [] zero = refl
-front_take b [] (suc i) = refl
-front_take b (p ∷ ps) i = refl
-
-front_drop : (b : ℕ) (ps : Lines) (i : ℕ) → drop (suc i) (byte_in_front b ps) ≡ drop (suc i) ps
-front_drop b [] zero = refl
-front_drop b [] (suc i) = refl
-front_drop b (p ∷ ps) i = refl
+front_take b ps = search rules
 
 first_pieces : (bs : Bytes) (i : ℕ) → pieces (flat_map (λ p. p) (take i (pieces bs))) ≡ take i (pieces bs)
 first_pieces bs zero = refl
 first_pieces [] (suc i) = refl
-first_pieces (b ∷ bs) (suc i) = elim (cases_Bool (b == 10)) [
-  | inl is ↦ ap (λ (ps : Lines). pieces (flat_map (λ p. p) (take (suc i) ps))) (feed_first b bs is)
-      ∙ (feed_first b (flat_map (λ p. p) (take i (pieces bs))) is
-      ∙ (ap (λ (ps : Lines). (b ∷ []) ∷ ps) (first_pieces bs i)
-      ∙ sym (ap (λ (ps : Lines). take (suc i) ps) (feed_first b bs is))))
-  | inr off ↦ ap (λ (ps : Lines). pieces (flat_map (λ p. p) (take (suc i) ps))) (other_first b bs off)
-      ∙ (ap pieces (front_flat b (pieces bs) i)
-      ∙ (other_first b (flat_map (λ p. p) (take (suc i) (pieces bs))) off
-      ∙ (ap (byte_in_front b) (first_pieces bs (suc i))
-      ∙ (front_take b (pieces bs) i ∙ sym (ap (λ (ps : Lines). take (suc i) ps) (other_first b bs off))))))
-]
+first_pieces (b ∷ bs) (suc i) =
+    search (rules, cases_Bool, inl, inr, front_flat, pieces, front_take, first_pieces bs i, first_pieces bs (suc i))
 
 last_pieces : (bs : Bytes) (i : ℕ) → pieces (tail_of i bs) ≡ drop i (pieces bs)
 last_pieces bs zero = ap pieces (flat-pieces bs)
 last_pieces [] (suc i) = refl
-last_pieces (b ∷ bs) (suc i) = elim (cases_Bool (b == 10)) [
-  | inl is ↦ ap (λ (ps : Lines). pieces (flat_map (λ p. p) (drop (suc i) ps))) (feed_first b bs is)
-      ∙ (last_pieces bs i ∙ sym (ap (λ (ps : Lines). drop (suc i) ps) (feed_first b bs is)))
-  | inr off ↦ ap (λ (ps : Lines). pieces (flat_map (λ p. p) (drop (suc i) ps))) (other_first b bs off)
-      ∙ (ap (λ (ps : Lines). pieces (flat_map (λ p. p) ps)) (front_drop b (pieces bs) i)
-      ∙ (last_pieces bs (suc i) ∙ sym (ap (λ (ps : Lines). drop (suc i) ps) (other_first b bs off)
-      ∙ front_drop b (pieces bs) i)))
-]
+last_pieces (b ∷ bs) (suc i) = search (rules, last_pieces bs i, last_pieces bs (suc i))
 
 -- The lines from line i on.
 pub last_lines : (bs : Bytes) (i : ℕ) → lines_of (tail_of i bs) ≡ drop i (lines_of bs)
@@ -255,8 +208,6 @@ whole_tail bs = sym (flat-pieces bs)
 pub lines_few : (bs : Bytes) → length (lines_of bs) ≤ length bs
 lines_few bs = omega (arith, length-map (pieces bs) line_of, length-pieces bs)
 
--- ---- A line more.
-
 -- A text is cut where its rest begins.
 module _ (bs rest : Bytes) (i : ℕ) (at : rest ≡ tail_of i bs) where
   both : bs ≡ flat_map (λ p. p) (take i (pieces bs)) ++ tail_of i bs
@@ -264,25 +215,17 @@ module _ (bs rest : Bytes) (i : ℕ) (at : rest ≡ tail_of i bs) where
       ∙ flat_map-append (λ p. p) (take i (pieces bs)) (drop i (pieces bs)))
 
   sizes : length bs ≡ length (flat_map (λ p. p) (take i (pieces bs))) + length rest
-  sizes =
-      let all = length-append (flat_map (λ p. p) (take i (pieces bs))) (tail_of i bs) in
-      omega (arith, ap length both, ap length at)
+  sizes = search (rules, length-append, both)
 
   pub rest_low : length rest ≤ length bs
   rest_low = omega (arith, sizes)
 
   pub rest_is : drop (length bs - length rest) bs ≡ tail_of i bs
-  rest_is = ap (λ (xs : Bytes). drop (length bs - length rest) xs) both ∙ drop_at
-      (flat_map (λ p. p) (take i (pieces bs))) (tail_of i bs) (length bs - length rest) (omega (arith, sizes))
+  rest_is = search (rules, both, drop_at, sizes)
 
   -- The lines before it are the first ones.
   pub first_lines : lines_of (take (length bs - length rest) bs) ≡ take i (lines_of bs)
-  first_lines =
-      ap lines_of
-      (ap (λ (xs : Bytes). take (length bs - length rest) xs) both
-      ∙ take_at (flat_map (λ p. p) (take i (pieces bs))) (tail_of i bs) (length bs - length rest)
-      (omega (arith, sizes)))
-      ∙ (ap (map line_of) (first_pieces bs i) ∙ sym (take-map line_of i (pieces bs)))
+  first_lines = search (rules, both, take_at, sizes, first_pieces, take-map)
 
   -- Where nothing is left there is no further line.
   pub cut_ended : rest ≡ [] → length (lines_of bs) ≤ i
@@ -318,17 +261,7 @@ pub word_read : (most : ℕ) (given : Option Lines) (i : ℕ) (bytes word : Byte
     → length bytes ≤ most
     → (IsUtf8 bytes → word ≡ bytes) → (¬ IsUtf8 bytes → word ≡ []) → IsReadAt most given i word
 word_read most None i bytes word is fits text other = tt
-word_read most (Some given) i bytes word is fits text other = (
-  is.0,
-  subst (λ (given : Bytes). IsReadAs most given word) (sym is.1) (record {
-    text = λ good _. text good;
-    other = by_other;
-  }),
-)
-  where
-    by_other : (¬ IsUtf8 bytes) ⊎ (most < length bytes) → word ≡ []
-    by_other (inl bad) = other bad
-    by_other (inr long) = absurd (omega (arith, long, fits))
+word_read most (Some given) i bytes word is fits text other = search rules
 
 -- One word more.
 pub reads_more : (most : ℕ) (given : Option Lines) (i : ℕ) (words : Lines) (word : Bytes) → ReadsSome most given i words
@@ -346,12 +279,8 @@ reads_more most (Some given) i words word read is = record {
     by_place : (k : ℕ) → (k < i) ⊎ (i ≤ k) → k < i + 1
         → IsReadAs most (get_or given k []) (get_or (words ++ word ∷ []) k [])
     by_place k (inl l) _ =
-        subst (IsReadAs most (get_or given k []))
-        (sym (get_or_append_left words (word ∷ []) [] k (omega (arith, l, read.many)))) (read.each k l)
-    by_place k (inr high) l =
-        let e : i ≡ k = omega (arith, high, l) in
-        subst (λ n. IsReadAs most (get_or given n []) (get_or (words ++ word ∷ []) n [])) e
-        (subst (IsReadAs most (get_or given i [])) (sym last) is.1)
+        rw (get_or_append_left words (word ∷ []) [] k (omega (arith, l, read.many))) (read.each k l)
+    by_place k (inr high) l = let e : k ≡ i = omega (arith, high, l) in rw (e, last) is.1
 
 -- One word more in a list of texts.
 pub reads_pushed : {X : Type 0} (f : X → Bytes) (most : ℕ) (given : Option Lines) (i : ℕ) (words more : List X)
@@ -359,6 +288,4 @@ pub reads_pushed : {X : Type 0} (f : X → Bytes) (most : ℕ) (given : Option L
     → ReadsSome most given i (map f words) → found ≡ Some word → IfSome found (λ w. IsReadAt most given i (f w))
     → more ≡ words ++ word ∷ [] → ReadsSome most given (i + 1) (map f more)
 reads_pushed f most given i words more found word read some is pushed =
-    subst (ReadsSome most given (i + 1)) (sym (ap (map f) pushed ∙ map-append f words (word ∷ [])))
-    (reads_more most given i (map f words) (f word) read
-    (subst (λ (o : Option _). IfSome o (λ w. IsReadAt most given i (f w))) some is))
+    rw (pushed, map-append f words (word ∷ [])) (reads_more most given i (map f words) (f word) read (rw some at is))

@@ -1,14 +1,14 @@
 -- Corners and the indices between their slashes.
+use Rattle.std.proofs.Common.{rules, List, None, Some, [], arith, cond, drop, eqb, false, length, refl, true, ◌&&◌}
+use Rattle.std.proofs.Common.{◌||◌, ap, inl, inr, leb, ltb, min, suc, sym, ℕ, ◌+◌, ◌-◌, ◌<◌, ◌^◌, ◌∙◌, ◌∷◌, ◌≡◌, ◌≤◌}
 use Rattle.def_text.specs.Corner.{are_indices, index_of, is_corner_word, is_optional, is_slash, used_index}
 use Rattle.def_text.specs.Digits.{is_negative, is_number, is_signed, number_written, unsigned}
-use Rattle.def_text.specs.declared.{index.Index.TheVariants.Out, index.Index.TheVariants.Vertex}
-use Rattle.qm_obj.specs.{Indices.clamped, Indices.corner_of, Indices.named, Indices.parts_behind}
-use Rattle.std.proofs.Common.{Bool, List, None, Some, [], arith, cond, drop, eqb, false, length, refl, true, ◌&&◌, ◌||◌}
-use Rattle.std.proofs.Common.{ap, inl, inr, leb, ltb, min, suc, sym, ℕ, ◌+◌, ◌-◌, ◌<◌, ◌^◌, ◌∙◌, ◌∷◌, ◌≡◌, ◌≤◌}
-use Rattle.std.proofs.lemmas.Bool.{Decides.nat_tests, and_left, and_parts, cases_Bool, false≢true, leb-true, or_from}
-use Rattle.std.specs.List.{before_first, list_all, list_any, position_or_len, slice_split}
-use Rattle.std.{proofs.lemmas.Bool.lt-leb, proofs.lemmas.Bool.ne_eqb, proofs.lemmas.List.take_all}
-use Rattle.{std.specs.Char.is_ascii_digit}
+use Rattle.def_text.specs.declared.index.Index.TheVariants.{Out, Vertex}
+use Rattle.qm_obj.specs.Indices.{clamped, corner_of, named, parts_behind}
+use Rattle.std.proofs.lemmas.Bool.{and_left, and_parts, cases_Bool, false≢true, leb-true, ne_eqb}
+use Rattle.std.specs.{List.before_first, List.list_all, List.list_any, List.position_or_len, List.slice_split}
+use Rattle.qm_obj.proofs.{TailLemmas.all_before, TailLemmas.none_from_all}
+use Rattle.{std.proofs.lemmas.Bool.Decides.nat_tests, std.specs.Char.is_ascii_digit}
 
 -- A word is cut at its first slash.
 pub split_word : (word : List ℕ) → slice_split is_slash word ≡ before_first is_slash word
@@ -23,13 +23,8 @@ no_digits : (word : List ℕ) → list_any is_slash word ≡ true → list_all i
 no_digits [] is = absurd (false≢true is)
 no_digits (b ∷ bs) is = grind (arith, nat_tests, no_digits bs)
 
-no_number : (word : List ℕ) → list_any is_slash word ≡ true → is_number word ≡ false
-no_number [] is = refl
-no_number (b ∷ bs) is = no_digits (b ∷ bs) is
-
 slash_none : (word : List ℕ) → list_any is_slash word ≡ true → is_optional word ≡ false
-slash_none [] is = absurd (false≢true is)
-slash_none (b ∷ bs) is = grind (arith, nat_tests, no_digits (b ∷ bs) is, no_number bs)
+slash_none word h1 = search (rules, no_digits)
 
 -- The parts of a word without and with a slash.
 pub behind_none : (word : List ℕ) → list_any is_slash word ≡ false → slice_split is_slash word ≡ word ∷ []
@@ -38,19 +33,7 @@ behind_none (b ∷ bs) none = grind (arith, behind_none bs)
 
 behind_some : (word : List ℕ) → list_any is_slash word ≡ true → leb (length (slice_split is_slash word)) 1 ≡ false
 behind_some [] is = absurd (false≢true is)
-behind_some (b ∷ bs) is = elim (cases_Bool (is_slash b)) [
-  | inl here ↦ rw (here, split_word bs) (lt-leb _ _ (omega arith))
-  | inr other ↦ rw (other, split_word bs) (rw (split_word bs) at (behind_some bs (rw other at is)))
-]
-
--- The last part of a corner.
-last_word : (word : List ℕ)
-    → (leb (length (slice_split is_slash word)) 1 && list_all is_optional (slice_split is_slash word))
-    ≡ is_optional word
-last_word word = elim (cases_Bool (list_any is_slash word)) [
-  | inl is ↦ and_left _ _ (behind_some word is) ∙ sym (slash_none word is)
-  | inr is ↦ rw (behind_none word is) (grind (arith))
-]
+behind_some (b ∷ bs) is = grind (arith, nat_tests, split_word bs, behind_some bs)
 
 -- The two last parts of a corner.
 two_words : (word : List ℕ)
@@ -64,7 +47,10 @@ two_words word = rw (split_word word) (grind (arith, nat_tests))
 pub last_part : (tail : List ℕ) → (leb (length (parts_behind tail)) 1 && list_all is_optional (parts_behind tail))
     ≡ is_optional (drop 1 tail)
 last_part [] = refl
-last_part (_ ∷ word) = last_word word
+last_part (_ ∷ word) = elim (cases_Bool (list_any is_slash word)) [
+  | inl is ↦ and_left _ _ (behind_some word is) ∙ sym (slash_none word is)
+  | inr is ↦ rw (behind_none word is) (grind (arith))
+]
 
 pub two_parts : (tail : List ℕ) → (leb (length (parts_behind tail)) 2 && list_all is_optional (parts_behind tail))
     ≡ (is_optional (before_first is_slash (drop 1 tail))
@@ -82,69 +68,49 @@ corner_parts word = ap are_indices (split_word word)
 
 -- The line that an index names, by its clamped number.
 pub named_count : (before : ℕ) (word : List ℕ) → before < 2 ^ 32
-    → cond (eqb (min (number_written (unsigned word)) (2 ^ 64 - 1)) 0
-    || (is_negative word && ltb before (min (number_written (unsigned word)) (2 ^ 64 - 1)))) 0
-    (cond (is_negative word) (before + 1 - min (number_written (unsigned word)) (2 ^ 64 - 1))
-    (min (number_written (unsigned word)) (2 ^ 64 - 1))) ≡ named before word
+    → let n = min (number_written (unsigned word)) (2 ^ 64 - 1) in
+    cond (eqb n 0 || (is_negative word && ltb before n)) 0 (cond (is_negative word) (before + 1 - n) n)
+    ≡ named before word
 named_count before word small = grind (arith, nat_tests)
 
 -- An index by the line that it names.
 pub index_named : (all before : ℕ) (word : List ℕ) → before ≤ all → all < 2 ^ 32 → is_signed word ≡ true
     → cond (eqb (named before word) 0 || ltb all (named before word)) Out (Vertex (named before word))
     ≡ index_of all before word
-index_named all before word le small form = rw form (by_number (number_written (unsigned word)) (is_negative word))
-  where
-    by_number : (n : ℕ) (t : Bool)
-        → cond (eqb (cond (eqb n 0 || (t && ltb before n)) 0 (min (cond t (before + 1 - n) n) (2 ^ 64 - 1))) 0
-        || ltb all (cond (eqb n 0 || (t && ltb before n)) 0 (min (cond t (before + 1 - n) n) (2 ^ 64 - 1)))) Out
-        (Vertex (cond (eqb n 0 || (t && ltb before n)) 0 (min (cond t (before + 1 - n) n) (2 ^ 64 - 1))))
-        ≡ cond ((eqb n 0 || (t && ltb before n)) || ltb all (cond t (before + 1 - n) n)) Out
-        (Vertex (cond t (before + 1 - n) n))
-    by_number n true = grind (arith, nat_tests)
-    by_number n false = grind (arith, nat_tests)
+index_named all before word le small form = search rules
 
--- Digits are an index of themselves, with no sign and no slash.
-pub digits_index : (b : ℕ) (bs : List ℕ) → list_all is_ascii_digit (b ∷ bs) ≡ true → (unsigned (b ∷ bs) ≡ b ∷ bs)
-    × (is_negative (b ∷ bs) ≡ false)
-digits_index b bs all =
-    let both = and_parts (leb 48 b) _ (and_parts _ _ all).0 in
-    let high = leb-true 48 b both.0 in
+-- A number alone is a corner, and its index is itself, with no sign and no slash.
+pub record IsPlainIndex (word : List ℕ) : Type 0 where
+  pub corner : is_corner_word word ≡ true
+  pub used : used_index word ≡ word
+  pub bare : unsigned word ≡ word
+  pub positive : is_negative word ≡ false
+
+pub plain_index : (word : List ℕ) → is_number word ≡ true → IsPlainIndex word
+plain_index [] is = absurd (false≢true is)
+plain_index (b ∷ bs) all =
+    let high : (b : ℕ) → is_ascii_digit b ≡ true → 48 ≤ b = λ b is. leb-true 48 b (and_parts (leb 48 b) _ is).0 in
+    let first = high b (and_parts _ _ all).0 in
     let plus : eqb b 43 ≡ false = ne_eqb _ _ (λ (e : b ≡ 43). omega arith) in
     let minus : eqb b 45 ≡ false = ne_eqb _ _ (λ (e : b ≡ 45). omega arith) in
-    (rw (plus, minus) refl, minus)
+    let bare : unsigned (b ∷ bs) ≡ b ∷ bs = rw (plus, minus) refl in
+    let whole = none_from_all is_ascii_digit is_slash (λ c is. ne_eqb _ _ (λ (e : c ≡ 47). omega (arith, high c is)))
+    (b ∷ bs) all in
+    record {
+      corner = ap are_indices (behind_none (b ∷ bs) whole) ∙ rw (bare, all) refl;
+      used = all_before is_slash (b ∷ bs) whole;
+      bare = bare;
+      positive = minus;
+    }
 
-pub no_slash : (ds : List ℕ) → list_all is_ascii_digit ds ≡ true → list_any is_slash ds ≡ false
-no_slash [] all = refl
-no_slash (d ∷ ds) all =
-    let parts = and_parts (is_ascii_digit d) _ all in
-    let high : 48 ≤ d = leb-true 48 d (and_parts _ _ parts.0).0 in
-    or_from _ _ (ne_eqb _ _ (λ (e : d ≡ 47). omega arith)) (no_slash ds parts.1)
-
-pub whole_word : (ds : List ℕ) → list_any is_slash ds ≡ false → used_index ds ≡ ds
-whole_word ds none = take_all _ _ (long ds none)
-  where
-    long : (ds : List ℕ) → list_any is_slash ds ≡ false → length ds ≤ position_or_len is_slash ds
-    long [] none = omega arith
-    long (d ∷ ds) none = grind (arith, long ds)
-
--- A number alone is a corner.
+-- Its line is the number.
 pub plain_corner : (before : ℕ) (word : List ℕ) (k corner : ℕ)
     → cond (is_number word) (Some (min (number_written word) (2 ^ 64 - 1))) None ≡ Some k → corner ≡ clamped k
     → Some corner ≡ cond (is_corner_word word) (Some (corner_of before word)) None
-plain_corner before [] k corner is clamps = cc is
-plain_corner before (b ∷ bs) k corner is clamps = elim (cases_Bool (is_number (b ∷ bs))) [
+plain_corner before word k corner is clamps = elim (cases_Bool (is_number word)) [
   | inr form ↦ cc (rw form at is)
   | inl form ↦
-      let value : min (number_written (b ∷ bs)) (2 ^ 64 - 1) ≡ k = cc (rw form at is) in
-      let index = digits_index b bs form in
-      let none = no_slash (b ∷ bs) form in
-      let signed : is_signed (b ∷ bs) ≡ true = ap is_number index.0 ∙ form in
-      let shape : is_corner_word (b ∷ bs) ≡ true = ap are_indices (behind_none (b ∷ bs) none) ∙ rw signed refl in
-      let line = named_digits (number_written (unsigned (b ∷ bs))) (is_negative (b ∷ bs)) index.1
-      ∙ ap (λ n. min n (2 ^ 64 - 1)) (ap number_written index.0) ∙ value in
-      rw shape (ap Some (clamps ∙ ap clamped (sym (ap (named before) (whole_word (b ∷ bs) none) ∙ line))))
+      let value : min (number_written word) (2 ^ 64 - 1) ≡ k = cc (rw form at is) in
+      let plain = plain_index word form in
+      rw (plain.corner, plain.used, clamps, ← value) (grind (arith, nat_tests, plain.bare, plain.positive))
 ]
-  where
-    named_digits : (n : ℕ) (t : Bool) → t ≡ false
-        → cond (eqb n 0 || (t && ltb before n)) 0 (min (cond t (before + 1 - n) n) (2 ^ 64 - 1)) ≡ min n (2 ^ 64 - 1)
-    named_digits n t off = grind (arith, nat_tests)

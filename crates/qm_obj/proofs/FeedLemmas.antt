@@ -1,29 +1,31 @@
 -- Lines and pieces that are taken one by one, and what is then kept.
+use Rattle.std.proofs.Common.{rules}
 use Rattle.std.proofs.Common.{Err, List, None, Option, Result, Some, arith, eqb, false, length, map, refl, true, ◌++◌}
-use Rattle.std.proofs.Common.{Ok, [], ap, sym, ℕ, ◌+◌, ◌-◌, ◌<◌, ◌∙◌, ◌∷◌, ◌≡◌, ◌≢◌, ◌≤◌, cond, leb, take, ◌&&◌, ℤ, ◌^◌}
-use Rattle.std.proofs.lemmas.Bool.{eqb-true, false≢true, lt-ltb, or_from, lt-leb, or_parts}
-use Rattle.std.proofs.{lemmas.List.Folds.list_any-append, lemmas.List.append-nil, lemmas.List.append_assoc}
-use Rattle.std.proofs.{lemmas.List.length-append, lemmas.Result.IfErr-weaker, lemmas.Bool.Decides.nat_tests}
-use Rattle.std.specs.{List.list_any, List.list_all, Prelude.IfErr, Prelude.OnErr, Prelude.OnOk, Prelude.is_some}
+use Rattle.std.proofs.Common.{Ok, [], ap, sym, ℕ, ◌+◌, ◌-◌, ◌<◌, ◌∙◌, ◌∷◌, ◌≡◌, ◌≢◌, ◌≤◌, cond, take, ◌&&◌, ◌^◌, Bool}
+use Rattle.std.proofs.lemmas.Bool.{eqb-true, false≢true, lt-ltb, or_from, lt-leb, and_left, cases_Bool}
+use Rattle.std.proofs.lemmas.List.{append-nil, append_assoc, length-append, take_all}
 use Rattle.def_feed.specs.Kept.{KeptText, face_readings, kept_readings, logical_behind, soup_with, soup_with_lines}
-use Rattle.def_feed.specs.Feed.{StandsFor, is_line_feed, Fed}
-use Rattle.def_io.specs.{Bytes.Bytes, Bytes.Lines, Bytes.Told, Lines.line_of, Lines.lines_of, Moves.Change}
-use Rattle.def_io.specs.{Moves.GaveMore, Moves.IsEmptied}
 use Rattle.def_text.specs.Logical.{Logical, continues, is_hash, logical_lines, with_space}
 use Rattle.def_text.specs.declared.reading.Reading.TheVariants.{Position, Refused, Face}
 use Rattle.def_text.specs.declared.refusal.ObjFail.TheVariants.{Limit, Memory, NotQuad, Range, Syntax}
+use Rattle.qm_obj.proofs.PrefixLemmas.{BeginsWith, bare_more, begins_behind, behind_held, behind_nothing}
+use Rattle.qm_obj.proofs.TailLemmas.{FirstLine, count_append, count_none, first_line, lines_fed, lines_open}
+use Rattle.qm_obj.specs.Feeding.{RefusesLine, RefusesPiece, TookLine, TookPiece, number_by, FedPiece, FedTo, FedWhole}
+use Rattle.std.proofs.{lemmas.List.Folds.list_any-append, lemmas.Bool.Decides.nat_tests, Common.inl, Common.inr}
+use Rattle.std.specs.{List.list_any, List.list_all, List.count_by, Option.option_map_or, Prelude.IfErr, Prelude.OnErr}
+use Rattle.def_feed.specs.{Feed.StandsFor, Feed.is_line_feed, Feed.Fed, Feed.answer_with}
+use Rattle.def_io.specs.{Bytes.Bytes, Bytes.Lines, Bytes.Told, Lines.line_of, Lines.lines_of, Moves.Change}
 use Rattle.def_text.specs.{declared.refusal.ObjFail.ObjFail, FaceSet.FaceSet, Text.soup_in, Text.soup_of}
 use Rattle.def_text.specs.{Types.Positions, Types.Words, declared.refusal.Which.TheVariants.Line, Fails.of_obj}
 use Rattle.def_text.specs.{Input.IsSoupFail, Input.ReadWhole, Corner.is_corner_word, Corner.resolved, Corner.used_index}
 use Rattle.def_text.specs.{Corner.is_out, Decimal.is_decimal, Decimal.is_far, Decimal.rounded}
 use Rattle.def_text.specs.{Reading.is_position_count, Reading.vertex_reading, Reading.face_reading}
-use Rattle.qm_obj.proofs.PrefixLemmas.{BeginsWith, bare_more, begins_behind, behind_held, behind_nothing}
-use Rattle.qm_obj.proofs.TailLemmas.{FirstLine, count_append, count_none, first_line, lines_fed, lines_open}
-use Rattle.qm_obj.proofs.{JoinLemmas.length-with_space, KeptLemmas.line_taken, KeptLemmas.stops_at}
-use Rattle.qm_obj.specs.Feeding.{RefusesLine, RefusesPiece, TookLine, TookPiece, number_by, FedPiece, FedTo, FedWhole}
+use Rattle.qm_obj.proofs.{JoinLemmas.length-with_space, KeptLemmas.line_taken, KeptLemmas.stops_at, WordLemmas.AreRead}
 use Rattle.qm_obj.specs.{Lines.next_said, Lines.Fits, Lines.Took, Lines.line_as, declared.joiner.Joiner.Joiner}
 use Rattle.qm_obj.specs.{declared.progress.Progress.Progress, Views.kept_at, Views.kept_of, Indices.corner_of}
 use Rattle.qm_obj.specs.{Indices.with_clamped, Indices.clamped, Positions.all_near, Positions.coordinate}
+use Rattle.{std.specs.Prelude.OnOk, std.specs.Prelude.is_some, def_io.specs.Moves.GaveMore}
+use Rattle.{def_io.specs.Moves.IsEmptied, qm_obj.specs.declared.position.Coordinate.Coordinate}
 use Rattle.{def_mesh.specs.Faces.Faces, qm_io.proofs.Cuts.gave_more}
 
 -- Whether bytes are empty, by their number.
@@ -56,19 +58,12 @@ sound_at p = record { fits = p.joiner.reader.fits; bare = p.joiner.bare; unended
 pub joined_more : (old line : Bytes) {joined : Bytes} → continues line ≡ true → joined ≡ old ++ with_space line
     → list_any is_hash old ≡ false → length old + length line ≤ 65536
     → (list_any is_hash joined ≡ false) × (length joined ≤ 65536)
-joined_more old line {joined} on are bare short = (
-  rw are (bare_more old line bare on),
-  omega (arith, ap length are, length-append old (with_space line), length-with_space line on),
-)
+joined_more old line {joined} on are bare short = search (rules, bare_more, length-append, length-with_space)
 
 pub tail_more : {T E : Type 0} (r : Result T E) (old bytes tail : Bytes) → OnOk r (tail ≡ old ++ bytes)
     → OnErr r (tail ≡ old) → list_any is_line_feed old ≡ false → list_any is_line_feed bytes ≡ false
     → (list_any is_line_feed tail ≡ false) × (length tail ≤ length old + length bytes)
-tail_more (Ok _) old bytes tail are same none off = (
-  rw are (list_any-append is_line_feed old bytes ∙ or_from _ _ none off),
-  omega (arith, ap length are, length-append old bytes),
-)
-tail_more (Err _) old bytes tail are same none off = (rw same none, omega (arith, ap length same))
+tail_more r h1 h2 h3 h4 = search (rules, list_any-append, length-append)
 
 module _ {old : KeptText} (sound : IsSound old) where
   -- A line that goes on is kept.
@@ -132,14 +127,12 @@ module _ {old : KeptText} (sound : IsSound old) (some : 0 < length old.joined) w
 
   pub last_refused : {fail : ObjFail} → next_said old.positions old.faces (last_line old) ≡ Refused fail
       → soup_with_lines old [] ≡ Err fail
-  last_refused stops =
-      rw (behind_nothing old some sound.bare) (stops_at _ _ _ (last_line old) [] sound.fits.sizes stops)
+  last_refused stops = search (rules, behind_nothing, stops_at)
 
 -- The lines of a text behind what is kept of it, where the line ends in this piece.
 fed_lines : (tail prefix more : Bytes) → list_any is_line_feed tail ≡ false → list_any is_line_feed prefix ≡ false
     → lines_of (tail ++ ((prefix ++ 10 ∷ []) ++ more)) ≡ line_of (tail ++ prefix) ∷ lines_of more
-fed_lines tail prefix more none off = rw (append_assoc prefix (10 ∷ []) more, ← append_assoc tail prefix (10 ∷ more))
-    (lines_fed (tail ++ prefix) more (list_any-append is_line_feed tail prefix ∙ or_from _ _ none off))
+fed_lines tail prefix more none off = search (rules, append_assoc, lines_fed, list_any-append)
 
 module _ {old : KeptText} (sound : IsSound old) where
   -- A piece that ends a physical line.
@@ -192,58 +185,60 @@ pub refused_behind : {a b : KeptText} {x : Bytes} (y : Bytes) (fail : ObjFail) �
     → RefusesPiece a (x ++ y) fail
 refused_behind {x = x} y fail first stops = λ more. rw (append_assoc x y more) (first.same (y ++ more) ∙ stops more)
 
-pub each_behind : {T : Type 0} {a b : KeptText} {x : Bytes} (y : Bytes) (r : Result T ObjFail) → TookPiece a b x
-    → IfErr r (λ fail. fail ≢ Memory → RefusesPiece b y fail)
-    → IfErr r (λ fail. fail ≢ Memory → RefusesPiece a (x ++ y) fail)
-each_behind {b = b} y r first = IfErr-weaker r _ _ (λ fail (is : fail ≢ Memory → RefusesPiece b y fail) other.
-    refused_behind y fail first (is other))
+-- A refusal that is handed on: it says what follows from what it said.
+pub refused_as : {T : Type 0} {P Q : ObjFail → Type 0} (r : Result T ObjFail)
+    → IfErr r (λ fail. fail ≢ Memory → P fail) → ((fail : ObjFail) → P fail → Q fail)
+    → IfErr r (λ fail. fail ≢ Memory → Q fail)
+refused_as (Ok x) is to = is
+refused_as (Err fail) is to = λ other. to fail (is other)
 
 pub refused_before : (a : KeptText) (x y : Bytes) (fail : ObjFail) → RefusesPiece a x fail
     → RefusesPiece a (x ++ y) fail
 refused_before a x y fail stops = λ more. rw (append_assoc x y more) (stops (y ++ more))
 
 -- The texts for which a feed stands, with one piece more: where it is taken, refused, or ignored.
+stands_next : {old new : Fed} (piece : Bytes) {text : Bytes}
+    → ((more : Bytes) → answer_with old (piece ++ more) ≡ answer_with new more)
+    → (new.refused ≡ None → (old.refused ≡ None) × (new.kept.next ≡ old.kept.next + count_by is_line_feed piece))
+    → StandsFor old text → StandsFor new (text ++ piece)
+stands_next piece {text} same counted stands = record {
+  answers = λ more. rw (append_assoc text piece more) (sym (same more) ∙ stands.answers (piece ++ more));
+  counted = λ none. let is = counted none in omega (arith, stands.counted is.0, is.1, count_append text piece);
+}
+
 pub stands_more : {old new : KeptText} {refused : Option ObjFail} {piece text : Bytes} → false ≡ is_some refused
     → TookPiece old new piece → StandsFor (record { kept = old; refused = refused }) text
     → StandsFor (record { kept = new; refused = refused }) (text ++ piece)
-stands_more {refused = None} {piece = piece} {text = text} none took stands = record {
-  answers = λ more. rw (append_assoc text piece more) (sym (took.same more) ∙ stands.answers (piece ++ more));
-  counted = λ none. omega (arith, stands.counted refl, count_append text piece);
-}
+stands_more {refused = None} {piece} none took stands = stands_next piece took.same (λ _. (refl, took.counted)) stands
 stands_more {refused = Some fail} none took stands = absurd (false≢true none)
 
 pub stands_refused : {old : KeptText} (new : KeptText) {refused : Option ObjFail} (piece : Bytes) {text : Bytes}
     {fail : ObjFail}
     → false ≡ is_some refused → RefusesPiece old piece fail → StandsFor (record { kept = old; refused = refused }) text
     → StandsFor (record { kept = new; refused = Some fail }) (text ++ piece)
-stands_refused new {refused = None} piece {text = text} none stops stands = record {
-  answers = λ more. rw (append_assoc text piece more) (sym (stops more) ∙ stands.answers (piece ++ more));
-  counted = λ none. absurd (cc none);
-}
+stands_refused new {refused = None} piece none stops stands = stands_next piece stops (λ none. absurd (cc none)) stands
 stands_refused new {refused = Some other} piece none stops stands = absurd (false≢true none)
 
 pub stands_still : {kept : KeptText} {refused : Option ObjFail} (piece : Bytes) {text : Bytes} → true ≡ is_some refused
     → StandsFor (record { kept = kept; refused = refused }) text
     → StandsFor (record { kept = kept; refused = refused }) (text ++ piece)
 stands_still {refused = None} piece some stands = absurd (false≢true (sym some))
-stands_still {refused = Some fail} piece {text = text} some stands = record {
-  answers = λ more. rw (append_assoc text piece more) (stands.answers (piece ++ more));
-  counted = λ none. absurd (cc none);
-}
+stands_still {refused = Some fail} piece some stands =
+    stands_next piece (λ more. refl) (λ none. absurd (cc none)) stands
 
 -- What a feed that stands for a text answers at its end.
 pub stands_end : {kept : KeptText} {refused : Option ObjFail} {text : Bytes} {answer : Result FaceSet ObjFail}
     → refused ≡ None → soup_with kept [] ≡ answer
     → StandsFor (record { kept = kept; refused = refused }) text → soup_in text ≡ answer
-stands_end {refused =
-    None} {text = text} none is stands = ap soup_in (sym (append-nil text)) ∙ sym (stands.answers []) ∙ is
+stands_end {refused = None} {text = text} none is stands =
+    rw append-nil at (sym (stands.answers [])) ∙ is
 stands_end {refused = Some fail} none is stands = absurd (cc none)
 
 pub stands_stopped : {kept : KeptText} {refused : Option ObjFail} {text : Bytes} {fail : ObjFail} → refused ≡ Some fail
     → StandsFor (record { kept = kept; refused = refused }) text → soup_in text ≡ Err fail
 stands_stopped {refused = None} is stands = absurd (cc is)
 stands_stopped {refused = Some other} {text = text} is stands =
-    ap soup_in (sym (append-nil text)) ∙ sym (stands.answers []) ∙ (let same : other ≡ _ = cc is in ap Err same)
+    rw append-nil at (sym (stands.answers [])) ∙ (let same : other ≡ _ = cc is in ap Err same)
 
 -- Texts that were read whole, their soups and their refusals.
 
@@ -251,12 +246,7 @@ stands_stopped {refused = Some other} {text = text} is stands =
 pub refused : (limit : ℕ) (source : Change) (bytes : Bytes) (fail : ObjFail)
     → ReadWhole limit source.told source.told_now bytes → source.faults_now ≡ source.faults
     → (fail ≢ Memory → soup_in bytes ≡ Err fail) → IsSoupFail limit source (of_obj fail)
-refused limit source bytes Memory whole calm said = tt
-refused limit source bytes _ whole calm said = (
-  record { bytes = bytes; whole = whole; said = said (λ e. cc) },
-  λ e. cc,
-  calm,
-)
+refused limit source h1 h2 h3 = search rules
 
 -- A source gave one piece more to a feed.
 pub fed_more : {before mid now : Told} {old new : Fed} {count more : ℕ} → FedTo before mid count old
@@ -271,8 +261,7 @@ fed_more {before} {mid} {now} fed piece = record {
 -- It gave its last piece.
 pub fed_whole : {limit count : ℕ} {before now : Told} {fed : Fed} → FedTo before now count fed → count ≤ limit
     → IsEmptied now → FedWhole limit before now fed
-fed_whole to few ended =
-    record { text = to.text; whole = record { given = to.given; ended = ended; few = omega arith }; stands = to.stands }
+fed_whole to few ended = search rules
 
 -- It gave more than it may.
 pub gave_beyond : {limit room : ℕ} {before mid now : Told} {fed : Fed} → FedTo before mid (limit - room) fed
@@ -283,7 +272,7 @@ gave_beyond {before = before} {mid} {now} to few more = record {
   moved = gave_more before mid now to.text more.piece (to.text ++ more.piece) refl to.given more.moved;
 }
 
--- What `v` lines and `f` lines say, refusal by refusal.
+-- What `v` lines and `f` lines say whose words are all read, or of which one is no decimal or no corner.
 
 all_coordinates : (ws : Words) → all_near (map coordinate ws) ≡ cond (list_any (λ w. is_far (rounded w)) ws) None
     (Some (map rounded ws))
@@ -291,77 +280,55 @@ all_coordinates [] = refl
 all_coordinates (w ∷ ws) = grind (arith, all_coordinates ws)
 
 module _ (line vertices : ℕ) (ws : Words) (few : vertices < 2 ^ 21) where
-  room : leb (2 ^ 21) vertices ≡ false
-  room = lt-leb _ _ few
-
-  -- A `v` line with another number of words, or a word that is no decimal.
   pub vertex_syntax : (is_position_count (length ws) && list_all is_decimal ws) ≡ false
       → Refused (Syntax line) ≡ vertex_reading line vertices ws
-  vertex_syntax bad = rw (room, bad) refl
+  vertex_syntax bad = rw (lt-leb (2 ^ 21) vertices few, bad) refl
 
-  module _ (right : (is_position_count (length ws) && list_all is_decimal ws) ≡ true) where
-    -- A `v` line of the right form.
-    pub vertex_rest : vertex_reading line vertices ws ≡ cond (list_any (λ w. is_far (rounded w)) (take 3 ws))
-        (Refused (Range line)) (Position (map rounded (take 3 ws)))
-    vertex_rest = rw (room, right) refl
-
-    pub vertex_position : {position : List ℤ} → all_near (map coordinate (take 3 ws)) ≡ Some position
-        → Position position ≡ vertex_reading line vertices ws
-    vertex_position is = grind (arith, sym (all_coordinates (take 3 ws)) ∙ is) ∙ sym vertex_rest
-
-    pub vertex_far : all_near (map coordinate (take 3 ws)) ≡ None → Refused (Range line)
-        ≡ vertex_reading line vertices ws
-    vertex_far is = grind (arith, sym (all_coordinates (take 3 ws)) ∙ is) ∙ sym vertex_rest
+  pub vertex_read : {count : ℕ} {slots : List Coordinate} → AreRead is_decimal coordinate ws 3 count slots
+      → vertex_reading line vertices ws ≡ cond (is_position_count count)
+      (option_map_or Position (all_near slots) (Refused (Range line))) (Refused (Syntax line))
+  vertex_read {count} {slots} read = elim (cases_Bool (is_position_count count)) [
+    | inr off ↦ rw off (sym (vertex_syntax (and_left _ _ (ap is_position_count read.many ∙ off))))
+    | inl on ↦
+        let three : (n : ℕ) → is_position_count n ≡ true → 3 ≤ n = λ n on. grind (arith, nat_tests) in
+        let low = lt-leb (2 ^ 21) vertices few in
+        let slots_are = read.filled (three count on) in
+        let near = all_coordinates (take 3 ws) in
+        rw (low, read.many, on, read.passed, slots_are, near)
+        (by_far (list_any (λ w. is_far (rounded w)) (take 3 ws)))
+  ]
+    where
+      by_far : (far : Bool) → cond far (Refused (Range line)) (Position (map rounded (take 3 ws)))
+          ≡ option_map_or Position (cond far None (Some (map rounded (take 3 ws)))) (Refused (Range line))
+      by_far true = refl
+      by_far false = refl
 
 -- A corner that is out is kept as 0, and no other.
-out_zero : (vertices : ℕ) (word : List ℕ) → eqb (corner_of vertices word) 0 ≡ is_out vertices (used_index word)
-out_zero vertices word = grind (arith, nat_tests)
-
-in_clamped : (vertices : ℕ) (word : List ℕ) → is_out vertices (used_index word) ≡ false → corner_of vertices word
-    ≡ clamped (resolved vertices (used_index word))
-in_clamped vertices word inside = rw inside (omega arith)
-
 any_out : (vertices : ℕ) (ws : Words) → list_any (λ corner. eqb corner 0) (map (corner_of vertices) ws)
     ≡ list_any (λ w. is_out vertices (used_index w)) ws
 any_out vertices [] = refl
-any_out vertices (w ∷ ws) = rw (out_zero vertices w, any_out vertices ws) refl
+any_out vertices (w ∷ ws) = grind (arith, nat_tests, any_out vertices ws)
 
 all_in : (vertices : ℕ) (ws : Words) → list_any (λ w. is_out vertices (used_index w)) ws ≡ false
     → map (corner_of vertices) ws ≡ map clamped (map (λ w. resolved vertices (used_index w)) ws)
 all_in vertices [] inside = refl
-all_in vertices (w ∷ ws) inside =
-    let parts = or_parts (is_out vertices (used_index w)) _ inside in
-    rw (in_clamped vertices w parts.0, all_in vertices ws parts.1) refl
+all_in vertices (w ∷ ws) inside = grind (arith, nat_tests, all_in vertices ws)
 
 module _ (line vertices faces : ℕ) (ws : Words) (few : faces < 2 ^ 20) where
-  place : leb (2 ^ 20) faces ≡ false
-  place = lt-leb _ _ few
-
-  -- An `f` line with a word that is no corner, and one with another number of corners.
   pub face_syntax : list_all is_corner_word ws ≡ false
       → Refused (Syntax line) ≡ with_clamped (face_reading line vertices faces ws)
-  face_syntax bad = rw (place, bad) refl
+  face_syntax bad = rw (lt-leb (2 ^ 20) faces few, bad) refl
 
-  pub face_count : list_all is_corner_word ws ≡ true → eqb (length ws) 4 ≡ false
-      → Refused (NotQuad line (length ws)) ≡ with_clamped (face_reading line vertices faces ws)
-  face_count corners other = rw (place, corners, other) refl
-
-  -- An `f` line of four corners.
-  module _ (corners : list_all is_corner_word ws ≡ true) (four : eqb (length ws) 4 ≡ true) where
-    pub face_rest : face_reading line vertices faces ws ≡ cond (list_any (λ w. is_out vertices (used_index w)) ws)
-        (Refused (Range line)) (Face line (map (λ w. resolved vertices (used_index w)) ws))
-    face_rest = rw (place, corners, four) refl
-
-    pub face_out : list_any (λ corner. eqb corner 0) (map (corner_of vertices) ws) ≡ true
-        → Refused (Range line) ≡ with_clamped (face_reading line vertices faces ws)
-    face_out out = rw (face_rest, sym (any_out vertices ws) ∙ out) refl
-
-    pub face_in : list_any (λ corner. eqb corner 0) (map (corner_of vertices) ws) ≡ false
-        → Face line (map (corner_of vertices) ws) ≡ with_clamped (face_reading line vertices faces ws)
-    face_in inside =
-        let none : list_any (λ w. is_out vertices (used_index w)) ws ≡ false = sym (any_out vertices ws) ∙ inside in
-        rw (face_rest, none, all_in vertices ws none) refl
-
--- A position has at least three numbers.
-pub position_words : (n : ℕ) → is_position_count n ≡ true → 3 ≤ n
-position_words n right = grind (arith, nat_tests)
+  pub face_read : {count : ℕ} {corners : List ℕ} → AreRead is_corner_word (corner_of vertices) ws 4 count corners
+      → with_clamped (face_reading line vertices faces ws) ≡ cond (eqb count 4)
+      (cond (list_any (λ corner. eqb corner 0) corners) (Refused (Range line)) (Face line corners))
+      (Refused (NotQuad line count))
+  face_read {count} {corners} read = elim (cases_Bool (eqb count 4)) [
+    | inr off ↦ rw (lt-leb (2 ^ 20) faces few, read.passed, read.many, off) refl
+    | inl on ↦
+        let four : count ≡ 4 = eqb-true count 4 on in
+        let are : corners ≡ map (corner_of vertices) ws =
+        read.filled (omega arith) ∙ ap (map (corner_of vertices)) (take_all 4 ws (omega (arith, read.many))) in
+        rw (lt-leb (2 ^ 20) faces few, read.passed, read.many, on, are, any_out vertices ws)
+        (grind (arith, all_in vertices ws))
+  ]

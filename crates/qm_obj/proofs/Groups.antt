@@ -1,16 +1,15 @@
 -- The first group of physical lines is the logical line ahead.
-use Rattle.std.proofs.Common.{List, arith, cond, drop, inl, inr, length, refl, slice_index_or, suc, ◌+◌, ◌∙◌, ◌∷◌, ◌≡◌}
-use Rattle.std.proofs.Common.{[], ap, ℕ, false, get_or, ◌-◌, ◌<◌, ◌≤◌, Err, map, sym, ◌++◌}
-use Rattle.std.proofs.{lemmas.Bool.cases_Bool, lemmas.List.append-nil, lemmas.List.length-append, lemmas.List.drop_more}
-use Rattle.std.specs.{List.before_first, List.flat_map, Prelude.slice_range}
-use Rattle.def_text.specs.Logical.{continues, first_group, groups_of, is_hash, joined, logical_lines, numbered_groups}
+use Rattle.std.proofs.Common.{rules, List, arith, cond, drop, length, refl, slice_index_or, suc, ◌+◌, ◌∙◌, ◌∷◌, ◌≡◌, []}
+use Rattle.std.proofs.Common.{ap, ℕ, false, get_or, ◌-◌, ◌<◌, ◌≤◌, Err, map, ◌++◌}
+use Rattle.std.proofs.lemmas.List.{append-nil, length-append, drop_more}
+use Rattle.def_text.specs.Logical.{continues, first_group, groups_of, is_hash, joined, logical_lines}
 use Rattle.def_text.specs.declared.reading.Reading.TheVariants.{Position, Refused}
+use Rattle.std.specs.{List.before_first, List.flat_map, Prelude.slice_range}
 use Rattle.def_text.specs.{Text.text_soup, Text.soup_of, Types.Positions, declared.refusal.ObjFail.ObjFail}
 use Rattle.qm_obj.specs.{Ahead.size_ahead, Ahead.span, Ahead.text_ahead, Lines.first_logical, Lines.Fits, Lines.Took}
-use Rattle.qm_obj.specs.{Lines.next_said}
 use Rattle.qm_obj.proofs.{TailLemmas.length-range, TailLemmas.range_drop, KeptLemmas.line_taken}
 use Rattle.qm_obj.proofs.{KeptLemmas.nothing_kept, KeptLemmas.stops_at}
-use Rattle.def_feed.specs.Kept.{face_readings, readings_behind}
+use Rattle.{qm_obj.specs.Lines.next_said, def_feed.specs.Kept.face_readings, def_feed.specs.Kept.readings_behind}
 use Rattle.{def_io.specs.Bytes.Lines, def_mesh.specs.Faces.Faces}
 
 -- The physical lines of the logical line ahead.
@@ -23,11 +22,7 @@ pub groups_step : (line : List ℕ) (lines : Lines)
     → groups_of (line ∷ lines) ≡ prefix (line ∷ lines) ∷ groups_of (drop (span (line ∷ lines)) (line ∷ lines))
 groups_step line [] = grind (arith)
 groups_step line (l ∷ ls) =
-    let e : 1 + span (l ∷ ls) ≡ suc (span (l ∷ ls)) = omega arith in
-    elim (cases_Bool (continues line)) [
-      | inl on ↦ rw (groups_step l ls, on, e) refl
-      | inr off ↦ rw (groups_step l ls, off, groups_step l ls) refl
-    ]
+    let e : 1 + span (l ∷ ls) ≡ suc (span (l ∷ ls)) = omega arith in search (rules, groups_step l ls)
 
 pub prefix_span : (lines : Lines) → length (prefix lines) ≡ span lines
 prefix_span [] = refl
@@ -35,17 +30,12 @@ prefix_span (line ∷ lines) = grind (arith, prefix_span lines)
 
 pub prefix_size : (lines : Lines) → length (flat_map (λ l. l) (prefix lines)) ≡ size_ahead lines
 prefix_size [] = refl
-prefix_size (line ∷ lines) = elim (cases_Bool (continues line)) [
-  | inl on ↦ rw on (omega (arith, prefix_size lines, length-append line (flat_map (λ l. l) (prefix lines))))
-  | inr off ↦ rw off (ap length (append-nil line))
-]
+prefix_size (line ∷ lines) =
+    grind (arith, prefix_size lines, length-append line (flat_map (λ l. l) (prefix lines)), append-nil line)
 
 pub prefix_text : (lines : Lines) → joined (prefix lines) ≡ text_ahead lines
 prefix_text [] = refl
-prefix_text (line ∷ lines) = elim (cases_Bool (continues line)) [
-  | inl on ↦ rw (on, on, prefix_text lines) refl
-  | inr off ↦ rw (off, off) (append-nil (before_first is_hash line))
-]
+prefix_text (line ∷ lines) = grind (arith, prefix_text lines, append-nil (before_first is_hash line))
 
 -- The first group is they.
 pub first_group_is : (lines : Lines) → first_group lines ≡ prefix lines
@@ -62,26 +52,17 @@ group_span lines = ap length (first_group_is lines) ∙ prefix_span lines
 pub logical_step : (number : ℕ) (line : List ℕ) (lines : Lines)
     → logical_lines number (line ∷ lines) ≡ first_logical number (line ∷ lines)
     ∷ logical_lines (number + span (line ∷ lines)) (drop (span (line ∷ lines)) (line ∷ lines))
-logical_step number line lines =
-    let all = line ∷ lines in
-    ap (numbered_groups number) (groups_step line lines)
-    ∙ rw (prefix_span all, prefix_size all, prefix_text all) refl
+logical_step number line lines = search (rules, groups_step, prefix_span, prefix_size, prefix_text)
 
 -- The logical line with which a range of physical lines begins.
 
 -- A range by its first line.
 pub range_cons : (xs : Lines) (i b : ℕ) → i < b → b ≤ length xs → slice_range xs i b
     ≡ get_or xs i [] ∷ slice_range xs (i + 1) b
-range_cons xs i b lt within =
-    let there : i < length xs = omega arith in
-    let e : b - i ≡ suc (b - (i + 1)) = omega arith in
-    rw (drop_more xs i [] there, e) refl
+range_cons xs i b lt within = search (rules, drop_more)
 
 pub range_none : (xs : Lines) (b : ℕ) → slice_range xs b b ≡ []
 range_none xs b = let e : b - b ≡ 0 = omega arith in rw e refl
-
-span_some : (line : List ℕ) (lines : Lines) → 1 ≤ span (line ∷ lines)
-span_some line lines = grind (arith)
 
 span_few : (lines : Lines) → span lines ≤ length lines
 span_few [] = omega arith
@@ -93,10 +74,7 @@ module _ (all : Lines) (i after : ℕ) (lt : i < after) (within : after ≤ leng
 
   -- The next logical line begins behind this one, and within the range.
   pub span_within : (1 ≤ span (slice_range all i after)) × (i + span (slice_range all i after) ≤ after)
-  span_within = (
-    rw cut (span_some (get_or all i []) (slice_range all (i + 1) after)),
-    omega (arith, span_few (slice_range all i after), length-range all i after (omega arith) within),
-  )
+  span_within = search (rules, span_few, length-range)
 
   -- The next logical line, and those behind it.
   pub next_lines : logical_lines (i + 1) (slice_range all i after)
@@ -132,8 +110,7 @@ pub record IsAt (all : Lines) (first i after : ℕ) (p : Positions) (c : Faces) 
       ++ readings_behind (length p) (length c) (logical_lines (i + 1) (slice_range all i after)))
 
 pub at_start : (all : Lines) (first after : ℕ) → first ≤ after → IsAt all first first after [] [] []
-at_start all first after order =
-    record { within = order; same = sym (nothing_kept (logical_lines (first + 1) (slice_range all first after))) }
+at_start all first after order = search (rules, nothing_kept)
 
 module _ {all : Lines} {first i after : ℕ} {p : Positions} {c : Faces} {l : List ℕ} (at : IsAt all first i after p c l)
   where
@@ -156,14 +133,16 @@ module _ {all : Lines} {first i after : ℕ} {p : Positions} {c : Faces} {l : Li
     pub at_refused : {fail : ObjFail} → Fits p c l → i < after → after ≤ length all
         → next_said p c (first_logical (i + 1) (slice_range all i after)) ≡ Refused fail
         → text_soup (first + 1) (slice_range all first after) ≡ Err fail
-    at_refused fits lt within stops = at.same ∙ rw (next_lines all i after lt within) (stops_at p c l
-        (first_logical (i + 1) (slice_range all i after)) (logical_lines (i + span (slice_range all i after) + 1)
-        (slice_range all (i + span (slice_range all i after)) after)) fits.sizes stops)
+    at_refused fits lt within stops =
+        let line = first_logical (i + 1) (slice_range all i after) in
+        let next = i + span (slice_range all i after) in
+        at.same ∙ rw (next_lines all i after lt within)
+        (stops_at p c l line (logical_lines (next + 1) (slice_range all next after)) fits.sizes stops)
 
     -- All lines are read.
     pub at_end : after ≤ i → text_soup (first + 1) (slice_range all first after)
         ≡ soup_of (map (λ position. Position position) p ++ face_readings l c)
     at_end past =
-        let none : slice_range all i after ≡ [] =
-        let end : i ≡ after = omega arith in rw end (range_none all after) in
+        let end : i ≡ after = omega arith in
+        let none : slice_range all i after ≡ [] = rw end (range_none all after) in
         at.same ∙ rw (none, append-nil (map (λ position. Position position) p ++ face_readings l c)) refl

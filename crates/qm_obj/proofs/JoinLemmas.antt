@@ -1,15 +1,16 @@
 -- Physical lines text_ahead to logical lines.
-use Rattle.std.proofs.Common.{List, arith, eqb, false, get_or, inl, inr, length, not, refl, suc, take, true, zero, ◌++◌}
-use Rattle.std.proofs.Common.{[], ap, sym, ℕ, ◌+◌, ◌-◌, ◌<◌, ◌∙◌, ◌∷◌, ◌≡◌, ◌≤◌}
-use Rattle.std.proofs.lemmas.Bool.{and_parts, cases_Bool, false≢true, not-true, or_from, or_parts}
-use Rattle.std.proofs.{lemmas.Bool.Decides.nat_tests, lemmas.List.Folds.list_any-append, lemmas.List.append_assoc}
-use Rattle.std.proofs.{lemmas.List.length-append, lemmas.List.length-take}
+use Rattle.std.proofs.Common.{rules, List, arith, eqb, false, get_or, length, not, refl, take, true, ◌++◌, [], ap, sym}
+use Rattle.std.proofs.Common.{ℕ, ◌+◌, ◌-◌, ◌<◌, ◌∙◌, ◌∷◌, ◌≡◌, ◌≤◌}
+use Rattle.std.proofs.lemmas.Bool.{and_parts, false≢true, not-true, or_from, both_ways, false_from_ne_true}
+use Rattle.std.proofs.lemmas.List.Folds.{list_any-append, list_any_at, list_any_none}
+use Rattle.std.proofs.lemmas.List.{append_assoc, length-append, length-take}
+use Rattle.qm_obj.specs.Lines.{first_logical, next_said, uncommented, line_as, Took}
+use Rattle.std.proofs.{lemmas.Bool.Decides.nat_tests, lemmas.List.Elements.All-take}
 use Rattle.std.specs.{List.before_first, List.list_any, List.position_or_len, Prelude.slice_range}
 use Rattle.def_text.specs.{declared.reading.Reading.TheVariants.Refused, declared.refusal.ObjFail.ObjFail}
 use Rattle.def_text.specs.{Logical.Logical, Logical.continues, Logical.is_hash, Logical.with_space, Types.Positions}
 use Rattle.qm_obj.proofs.{Groups.here, Groups.range_cons, WordLemmas.uncommented_is, WordLemmas.uncommented_none}
-use Rattle.qm_obj.specs.{Ahead.size_ahead, Ahead.text_ahead, Ahead.span, Lines.first_logical, Lines.next_said}
-use Rattle.qm_obj.specs.{Lines.uncommented, Lines.line_as, Lines.Took}
+use Rattle.qm_obj.specs.{Ahead.size_ahead, Ahead.text_ahead, Ahead.span}
 use Rattle.{def_io.specs.Bytes.Lines, def_mesh.specs.Faces.Faces}
 
 -- A comment is found before the end exactly where there is one.
@@ -20,10 +21,7 @@ no_hash (b ∷ bs) = grind (arith, nat_tests, no_hash bs)
 -- A line that continues is as long with the space.
 pub length-with_space : (line : List ℕ) → continues line ≡ true → length (with_space line) ≡ length line
 length-with_space [] on = absurd (false≢true on)
-length-with_space (b ∷ bs) on =
-    let g0 = length-append (take (suc (length bs) - 1) (b ∷ bs)) (32 ∷ []) in
-    let g1 = length-take (suc (length bs) - 1) (b ∷ bs) in
-    omega arith
+length-with_space (b ∷ bs) on = search (rules, length-append)
 
 -- The physical lines up to this one are text_ahead, and each of them continues.
 pub record IsJoining (all : Lines) (i next after : ℕ) (bytes : List ℕ) : Type 0 where
@@ -45,55 +43,25 @@ module _ {all : Lines} {i next after : ℕ} {bytes line : List ℕ} (lt : next <
 
   -- One line more, that continues.
   pub joining_more : continues line ≡ true → IsJoining all i (next + 1) after (bytes ++ with_space line)
-  joining_more on =
-      let text : text_ahead (slice_range all next after) ≡ with_space line
-      ++ text_ahead (slice_range all (next + 1) after) = rw (joining_cut, on) refl in
-      let count : span (slice_range all next after) ≡ 1 + span (slice_range all (next + 1) after) =
-      rw (joining_cut, on) refl in
-      let size : size_ahead (slice_range all next after) ≡ length line + size_ahead (slice_range all (next + 1) after) =
-      rw (joining_cut, on) refl in
-      record {
-        from = omega arith;
-        within = omega arith;
-        text = rw (append_assoc bytes (with_space line) (text_ahead (slice_range all (next + 1) after)), ← text)
-            so_far.text;
-        count = omega arith;
-        size = omega (arith, length-append bytes (with_space line), length-with_space line on);
-      }
+  joining_more on = search (rules, append_assoc, length-append, joining_cut, length-with_space)
 
   -- The last line, that does not continue.
   pub joined_last : continues line ≡ false
       → IsJoined all i (next + 1) after (bytes ++ before_first is_hash line) (length bytes + length line)
-  joined_last off =
-      let text : text_ahead (slice_range all next after) ≡ before_first is_hash line = rw (joining_cut, off) refl in
-      let count : span (slice_range all next after) ≡ 1 = rw (joining_cut, off) refl in
-      let size : size_ahead (slice_range all next after) ≡ length line = rw (joining_cut, off) refl in
-      record { text = rw (← text) so_far.text; count = omega arith; bytes_are = omega arith }
+  joined_last off = grind (arith, joining_cut)
 
 -- What is left to read is no longer than the physical lines.
 pub joined_short : (lines : Lines) → length (text_ahead lines) ≤ size_ahead lines
 joined_short [] = omega arith
-joined_short (line ∷ lines) = elim (cases_Bool (continues line)) [
-  | inl on ↦
-      let all = length-append (with_space line) (text_ahead lines) in
-      rw on (omega (arith, joined_short lines, length-with_space line on))
-  | inr off ↦ rw off (omega (arith, length-take (position_or_len is_hash line) line))
-]
+joined_short (line ∷ lines) = search (rules, length-append, length-take, length-with_space, joined_short lines)
 
 -- A physical line that does not continue is a logical line.
 pub single_logical : (all : Lines) (i after : ℕ) (lt : i < after) (within : after ≤ length all) (line : List ℕ)
     → line ≡ get_or all i [] → continues line ≡ false
     → line_as (i + 1) (length line) line ≡ first_logical (i + 1) (slice_range all i after)
-single_logical all i after lt within line is off = rw (here all i after lt within line is off, off, uncommented_is line)
-    refl
+single_logical all i after lt within line is off = search (rules, here, uncommented_is)
 
 -- What is left to read of a logical line has no comment.
-pub any_take : (n : ℕ) (xs : List ℕ) → list_any is_hash xs ≡ false → list_any is_hash (take n xs) ≡ false
-any_take zero xs none = refl
-any_take (suc n) [] none = refl
-any_take (suc n) (x ∷ xs) none = let parts = or_parts (is_hash x) _ none in
-    or_from _ _ parts.0 (any_take n xs parts.1)
-
 pub cut_none : (line : List ℕ) → list_any is_hash (uncommented line) ≡ false
 cut_none [] = refl
 cut_none (b ∷ bs) = grind (arith, cut_none bs)
@@ -101,15 +69,15 @@ cut_none (b ∷ bs) = grind (arith, cut_none bs)
 -- Nor has a line that goes on, with its space.
 pub space_none : (line : List ℕ) → continues line ≡ true → list_any is_hash (with_space line) ≡ false
 space_none line on = list_any-append is_hash (take (length line - 1) line) (32 ∷ [])
-    ∙ or_from _ _ (any_take (length line - 1) line (not-true _ (and_parts _ _ on).1)) refl
+    ∙ or_from _ _ (list_any_none is_hash _ (All-take (λ b. is_hash b ≡ false) (length line - 1) line
+    (λ k d l. false_from_ne_true _ (λ is.
+    both_ways _ (not-true _ (and_parts _ _ on).1) (list_any_at is_hash line k d l is))))) refl
 
 joined_none : (lines : Lines) → list_any is_hash (text_ahead lines) ≡ false
 joined_none [] = refl
-joined_none (line ∷ lines) = elim (cases_Bool (continues line)) [
-  | inl on ↦ rw on (list_any-append is_hash (with_space line) (text_ahead lines)
-      ∙ or_from _ _ (space_none line on) (joined_none lines))
-  | inr off ↦ rw (off, ← uncommented_is line) (cut_none line)
-]
+joined_none (line ∷ lines) =
+    let more = list_any-append is_hash (with_space line) (text_ahead lines) in
+    grind (arith, joined_none lines, more, space_none line, cut_none line, uncommented_is line)
 
 pub joined_uncommented : (lines : Lines) → uncommented (text_ahead lines) ≡ text_ahead lines
 joined_uncommented lines = uncommented_none (text_ahead lines) (joined_none lines)

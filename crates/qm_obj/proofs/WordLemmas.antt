@@ -1,15 +1,16 @@
 -- The words of a line, one after another.
+use Rattle.std.proofs.Common.{rules, Bool, List, None, Some, arith, cond, drop, false, get_or, length, refl, take, []}
+use Rattle.std.proofs.Common.{ap, eqb, inl, inr, map, not, set, suc, sym, true, ℕ, ◌+◌, ◌<◌, ◌∙◌, ◌∷◌, ◌≡◌, ◌≤◌}
 use Rattle.def_text.specs.Reading.{face_reading, is_letter, vertex_reading, words_reading}
 use Rattle.def_text.specs.{Logical.is_hash, Types.Words, Words.ends_word, declared.reading.Reading.TheVariants.Passed}
 use Rattle.qm_obj.specs.{Indices.with_clamped, Lines.IsFilled, Lines.IsReadTo, Lines.uncommented, Lines.with_word}
-use Rattle.std.proofs.Common.{Bool, List, None, Some, arith, below_more, cond, drop, false, get_or, length, refl, take}
-use Rattle.std.proofs.Common.{[], ap, eqb, inl, inr, map, not, set, suc, sym, true, ℕ, ◌+◌, ◌<◌, ◌∙◌, ◌∷◌, ◌≡◌, ◌≤◌}
-use Rattle.std.proofs.lemmas.Bool.{and_from, cases_Bool, eqb-true, or_from, or_left, or_parts, or_right, true≢false}
-use Rattle.std.proofs.lemmas.List.{Folds.list_all_at, Folds.list_all_more, drop_more, get_or-set_other, get_or-set_same}
-use Rattle.std.proofs.lemmas.List.{get_or-map, get_or-take, length-drop, length-map, length-set, length-take-le}
+use Rattle.std.proofs.lemmas.Bool.{and_from, cases_Bool, or_from, or_left, or_right, true≢false}
+use Rattle.std.proofs.lemmas.List.{Folds.list_all_at, Folds.list_all_more, drop_more, get_or-map, get_or-take}
+use Rattle.std.proofs.lemmas.List.{length-drop, length-map, length-take-le}
 use Rattle.std.specs.{List.before_first, List.list_all, List.list_any, List.position_or_len}
 use Rattle.{def_io.specs.Lines.byte_in_front, std.proofs.lemmas.List.same_lists, std.proofs.lemmas.List.take_all}
 use Rattle.{def_text.specs.Words.is_blank, def_text.specs.Words.words, qm_obj.specs.Lines.is_end}
+use Rattle.qm_obj.proofs.TailLemmas.{all_before}
 
 -- A text that begins with no blank has its prefix up to the first blank as its first word.
 pub words_word : (b : ℕ) (bs : List ℕ) → is_blank b ≡ false → words (b ∷ bs)
@@ -22,33 +23,17 @@ words_word b (c ∷ cs) off =
       | inr after ↦ rw (words_word c cs after) (rw after (rw e refl))
     ])
 
--- Up to the first end of a word a line is as it is without its comment, and behind it the comment is cut from the rest.
-record EndsAlike (bs : List ℕ) : Type 0 where
-  prefix : take (position_or_len is_blank (uncommented bs)) (uncommented bs) ≡ take (position_or_len is_end bs) bs
-  behind : drop (position_or_len is_blank (uncommented bs)) (uncommented bs)
-      ≡ uncommented (drop (position_or_len is_end bs) bs)
-
-ends_alike : (bs : List ℕ) → EndsAlike bs
-ends_alike [] = record { prefix = refl; behind = refl }
-ends_alike (c ∷ cs) =
-    let e : 1 + position_or_len is_blank (uncommented cs) ≡ suc (position_or_len is_blank (uncommented cs)) =
-    omega arith in
-    let f : 1 + position_or_len is_end cs ≡ suc (position_or_len is_end cs) = omega arith in
+-- A line that goes on with a word has its bytes up to the first end as that word, and its comment is cut behind it.
+word_ahead : (b : ℕ) (bs : List ℕ) → is_blank b ≡ false → words (b ∷ uncommented bs)
+    ≡ (b ∷ take (position_or_len is_end bs) bs) ∷ words (uncommented (drop (position_or_len is_end bs) bs))
+word_ahead b [] off = rw off refl
+word_ahead b (c ∷ cs) off =
+    let e : 1 + position_or_len is_end cs ≡ suc (position_or_len is_end cs) = omega arith in
     elim (cases_Bool (is_hash c)) [
-      | inl hash ↦
-          let end : is_end c ≡ true = or_right _ _ hash in
-          record { prefix = rw end (rw hash refl); behind = rw end (rw hash refl) }
-      | inr hash ↦ elim (cases_Bool (is_blank c)) [
-        | inl blank ↦
-            let end : is_end c ≡ true = or_left _ _ blank in
-            record { prefix = rw end (rw hash (rw blank refl)); behind = rw end (rw hash (rw blank refl)) }
-        | inr blank ↦
-            let more : is_end c ≡ false = or_from _ _ blank hash in
-            let again = ends_alike cs in
-            record {
-              prefix = rw more (rw hash (rw (blank, e, f) (ap (λ xs. c ∷ xs) again.prefix)));
-              behind = rw more (rw hash (rw (blank, e, f) again.behind));
-            }
+      | inl hash ↦ let end : is_end c ≡ true = or_right _ _ hash in rw (end, hash, off) refl
+      | inr bare ↦ elim (cases_Bool (is_blank c)) [
+        | inl blank ↦ let end : is_end c ≡ true = or_left _ _ blank in rw (end, bare, off, blank) refl
+        | inr after ↦ search (rules, word_ahead c cs after)
       ]
     ]
 
@@ -59,17 +44,10 @@ pub first_word : (rest : List ℕ) → (0 < length rest → is_blank (get_or res
 first_word [] at_word = refl
 first_word (b ∷ bs) at_word =
     let off : is_blank b ≡ false = at_word (omega arith) in
+    let e : 1 + position_or_len is_end bs ≡ suc (position_or_len is_end bs) = omega arith in
     elim (cases_Bool (is_hash b)) [
-      | inl is ↦
-          let e : is_end b ≡ true = or_right _ _ is in
-          let end : position_or_len is_end (b ∷ bs) ≡ 0 = rw e refl in
-          rw end (rw is refl)
-      | inr is ↦
-          let e : is_end b ≡ false = or_from _ _ off is in
-          let end : position_or_len is_end (b ∷ bs) ≡ suc (position_or_len is_end bs) = rw e (omega arith) in
-          let bare : uncommented (b ∷ bs) ≡ b ∷ uncommented bs = rw is refl in
-          let alike = ends_alike bs in
-          rw end (ap words bare ∙ words_word b (uncommented bs) off ∙ rw (alike.prefix, alike.behind) refl)
+      | inl is ↦ let end : is_end b ≡ true = or_right _ _ is in rw (end, is) refl
+      | inr is ↦ let end : is_end b ≡ false = or_from _ _ off is in rw (end, is, e) (word_ahead b bs off)
     ]
 
 -- A line is no longer without its comment, which is what stands from its first `#` on.
@@ -84,14 +62,10 @@ uncommented_is (b ∷ bs) = by_hash (is_hash b) (uncommented_is bs)
     by_hash : (t : Bool) → uncommented bs ≡ before_first is_hash bs → cond t [] (b ∷ uncommented bs)
         ≡ take (cond (not t) (1 + position_or_len is_hash bs) 0) (b ∷ bs)
     by_hash true again = refl
-    by_hash false again = let e : 1 + position_or_len is_hash bs ≡ suc (position_or_len is_hash bs) = omega arith in
-        rw e (ap (λ xs. b ∷ xs) again)
+    by_hash false again = search rules
 
 pub uncommented_none : (line : List ℕ) → list_any is_hash line ≡ false → uncommented line ≡ line
-uncommented_none [] none = refl
-uncommented_none (b ∷ bs) none =
-    let parts = or_parts (is_hash b) _ none in
-    rw (parts.0, uncommented_none bs parts.1) refl
+uncommented_none line none = uncommented_is line ∙ all_before is_hash line none
 
 -- No text has more words than bytes.
 pub words_few : (bytes : List ℕ) → length (words bytes) ≤ length bytes
@@ -111,33 +85,11 @@ pub record IsNext (all : Words) (count : ℕ) (word : List ℕ) (after : Words) 
   pub here : get_or all count [] ≡ word
   pub behind : after ≡ drop (count + 1) all
 
-pub next_is : (all : Words) (count : ℕ) (word : List ℕ) (after : Words) → with_word word after ≡ drop count all
-    → eqb (length word) 0 ≡ false → IsNext all count word after
-next_is all count [] after is some = absurd (true≢false some)
-next_is all count (b ∷ bs) after is some =
-    let long : length (drop count all) ≡ suc (length after) = ap length (sym is) in
-    let there : count < length all = omega (arith, length-drop count all) in
-    let parts : get_or all count [] ∷ drop (count + 1) all ≡ (b ∷ bs) ∷ after = sym (drop_more all count [] there)
-    ∙ sym is in
-    record { there = there; here = cc parts; behind = cc parts }
-
--- Where the next word is empty, all words are read.
-pub next_none : (all : Words) (count : ℕ) (word : List ℕ) (after : Words) → with_word word after ≡ drop count all
-    → eqb (length word) 0 ≡ true → length all ≤ count
-next_none all count [] after is none = omega (arith, ap length is, length-drop count all)
-next_none all count (b ∷ bs) after is none =
-    let h : suc (length bs) ≡ 0 = eqb-true _ _ none in absurd (omega arith)
-
 -- One slot more.
 pub filled_more : {X : Type 0} (says : List ℕ → X) (all : Words) (count size : ℕ) (slots : List X) (x : X)
     → x ≡ says (get_or all count []) → IsFilled says all count size slots
     → IsFilled says all (count + 1) size (set slots count x)
-filled_more {X} says all count size slots x is filled = record {
-  many = length-set slots count x ∙ filled.many;
-  each = λ k d. below_more (λ k. k < size → get_or (set slots count x) k d ≡ says (get_or all k [])) count
-      (λ k l fits. get_or-set_other slots count k x d (λ (e : k ≡ count). let h = e in omega arith)
-      ∙ filled.each k d l fits) (λ fits. get_or-set_same slots count x d (omega arith) ∙ is) k;
-}
+filled_more {X} says all count size slots x is filled = search rules
 
 -- The slots have what the first words say.
 pub filled_all : {X : Type 0} (says : List ℕ → X) (all : Words) (count size : ℕ) (slots : List X) → size ≤ count
@@ -160,26 +112,30 @@ pub record AreRead {X : Type 0} (test : List ℕ → Bool) (says : List ℕ → 
 pub some_from : {X : Type 0} (t : Bool) (x y : X) → cond t (Some x) None ≡ Some y → (t ≡ true) × (y ≡ x)
 some_from t x y is = grind (arith)
 
-pub none_from : {X : Type 0} (t : Bool) (x : X) → cond t (Some x) None ≡ None → t ≡ false
-none_from t x is = grind (arith)
-
 -- Where the next word is one, fewer are left behind it.
-pub fewer_left : (word : List ℕ) (after : Words) {rest : Words} → with_word word after ≡ rest → eqb (length word) 0
-    ≡ false → length after < length rest
-fewer_left word after first some = grind (arith, ap length first)
+pub fewer_left : (word : List ℕ) (after : Words) {rest : Words} {none : Bool} → rest ≡ with_word word after
+    → none ≡ eqb (length word) 0 → none ≡ false → length after < length rest
+fewer_left [] after first is some = absurd (true≢false (sym is ∙ some))
+fewer_left (b ∷ bs) after first is some = omega (arith, ap length first)
 
 module _ {X : Type 0} {test : List ℕ → Bool} {says : List ℕ → X} {all : Words} {size count : ℕ} {rest : Words}
-    {slots : List X} (read : IsReadTo test says all size count rest slots)
-    (word : List ℕ) (after : Words) (first : with_word word after ≡ rest) where
+    {slots : List X} (read : IsReadTo test says all size count rest slots) where
   -- The next word is there.
-  pub next_read : eqb (length word) 0 ≡ false → IsNext all count word after
-  next_read some = next_is all count word after (first ∙ read.rest_is) some
+  pub next_read : {word : List ℕ} {after : Words} {none : Bool} → rest ≡ with_word word after
+      → none ≡ eqb (length word) 0 → none ≡ false → IsNext all count word after
+  next_read {word = []} first is some = absurd (true≢false (sym is ∙ some))
+  next_read {word = b ∷ bs} {after = after} first is some =
+      let behind : drop count all ≡ (b ∷ bs) ∷ after = sym read.rest_is ∙ first in
+      let there : count < length all = omega (arith, ap length behind, length-drop count all) in
+      let parts : get_or all count [] ∷ drop (count + 1) all ≡ (b ∷ bs) ∷ after =
+      sym (drop_more all count [] there) ∙ behind in
+      record { there = there; here = cc parts; behind = cc parts }
 
   -- It passes the test, and what it says is put into its slot.
-  pub read_more : {x : X} → eqb (length word) 0 ≡ false → cond (test word) (Some (says word)) None ≡ Some x
+  pub read_more : {word : List ℕ} {after : Words} {x : X} → IsNext all count word after
+      → cond (test word) (Some (says word)) None ≡ Some x
       → IsReadTo test says all size (count + 1) after (set slots count x)
-  read_more {x} some is =
-      let next = next_read some in
+  read_more {word} {x = x} next is =
       let got = some_from (test word) (says word) x is in
       record {
         within = omega arith;
@@ -189,25 +145,21 @@ module _ {X : Type 0} {test : List ℕ → Bool} {says : List ℕ → X} {all : 
       }
 
   -- It does not pass it.
-  pub read_bad : eqb (length word) 0 ≡ false → cond (test word) (Some (says word)) None ≡ None
-      → list_all test all ≡ false
-  read_bad some is = list_all_at test all count [] (next_read some).there
-      (ap test (next_read some).here ∙ none_from (test word) (says word) is)
+  pub read_bad : {word : List ℕ} {after : Words} → IsNext all count word after
+      → cond (test word) (Some (says word)) None ≡ None → list_all test all ≡ false
+  read_bad {word} next is = search (rules, list_all_at)
 
   -- No word is left, so all are read.
-  pub all_read : eqb (length word) 0 ≡ true → AreRead test says all size count slots
-  all_read empty =
-      let none : length all ≤ count = next_none all count word after (first ∙ read.rest_is) empty in
+  pub all_read : (word : List ℕ) (after : Words) {none : Bool} → rest ≡ with_word word after
+      → none ≡ eqb (length word) 0 → none ≡ true → AreRead test says all size count slots
+  all_read (b ∷ bs) after first is empty = search rules
+  all_read [] after first is empty =
+      let past : length all ≤ count = omega (arith, ap length (sym read.rest_is ∙ first), length-drop count all) in
       record {
         many = omega arith;
-        passed = ap (list_all test) (sym (take_all count all none)) ∙ read.passed;
+        passed = ap (list_all test) (sym (take_all count all past)) ∙ read.passed;
         filled = λ fits. filled_all says all count size slots fits (omega arith) read.filled;
       }
-
--- A `v` line says no face.
-vertex_clamped : (line vertices : ℕ) (words : Words) → with_clamped (vertex_reading line vertices words)
-    ≡ vertex_reading line vertices words
-vertex_clamped line vertices words = grind (arith)
 
 -- What the first word and the words behind it say.
 pub by_first_word : (line vertices faces : ℕ) (all rest : Words) (first : List ℕ) → all ≡ with_word first rest
@@ -215,7 +167,4 @@ pub by_first_word : (line vertices faces : ℕ) (all rest : Words) (first : List
     ≡ cond (is_letter 118 first) (vertex_reading line vertices rest)
     (cond (is_letter 102 first) (with_clamped (face_reading line vertices faces rest)) Passed)
 by_first_word line vertices faces all rest [] is = ap (λ ws. with_clamped (words_reading line vertices faces ws)) is
-by_first_word line vertices faces all rest (b ∷ bs) is = rw is (elim (cases_Bool (is_letter 118 (b ∷ bs))) [
-  | inl v ↦ rw v (vertex_clamped line vertices rest)
-  | inr v ↦ elim (cases_Bool (is_letter 102 (b ∷ bs))) [ inl f ↦ rw (v, f) refl | inr f ↦ rw (v, f) refl ]
-])
+by_first_word line vertices faces all rest (b ∷ bs) is = grind arith

@@ -1,25 +1,24 @@
 -- A text that is put item by item and stops at one of them.
 use Rattle.std.proofs.Common.{◌≡◌, ℕ, suc, ◌+◌, ◌<◌, map, arith, List, [], ◌∷◌, ◌++◌, length, take, drop, get_or, sym}
-use Rattle.std.proofs.Common.{◌∙◌, ap, subst, append_assoc, ◌-◌, ◌≤◌, ◌⊎◌, true, slice_index, eqb, inl, inr}
+use Rattle.std.proofs.Common.{◌∙◌, ap, append_assoc, ◌-◌, ◌≤◌, true, slice_index, eqb, inl, inr}
 use Rattle.std.proofs.Common.{length-drop, length-take, Result, Ok, Err}
 use Rattle.std.proofs.lemmas.List.{append-nil, take-append-drop, drop-drop, drop_all}
 use Rattle.std.proofs.lemmas.List.FromFn.{get_or-map-range_with_len, length-map-range_with_len, map-range_with_len_more}
 use Rattle.std.proofs.lemmas.List.FromFn.{take-map-range_with_len}
 use Rattle.std.proofs.{Math.Seq.drop-cons, Math.Seq.take-append_seam, lemmas.Grind.flat_map-append}
-use Rattle.std.proofs.{lemmas.List.Concat.flat_map-cons, lemmas.Bool.cases_lt, lemmas.Bool.eq-eqb, lemmas.Bool.eqb-true}
+use Rattle.std.proofs.{lemmas.Bool.cases_lt, lemmas.Bool.eq-eqb, lemmas.Bool.eqb-true}
 use Rattle.std.specs.{List.flat_map, List.range_with_len, Prelude.OnErr}
 use Rattle.def_io.specs.{Bytes.Bytes, Bytes.Told, Faults.Rose, Moves.took, Moves.TookPrefix}
-use Rattle.def_output.specs.{Compared.Differs, Compared.LacksFirst, Buffered.buffered, Buffered.Buffered}
+use Rattle.def_output.specs.{Compared.Differs, Buffered.buffered, Buffered.Buffered}
 use Rattle.def_output.specs.{Buffered.BrokeOff, Buffered.PassedOn}
 use Rattle.qm_output.specs.Laws.{broke_later, passed_more}
 
 -- The texts of items are those up to one, that one's, and those behind it.
 items_apart : {X : Type 0} (f : X → List ℕ) (xs : List X) (i : ℕ) (d : X) → i < length xs
     → (flat_map f (take i xs) ++ f (get_or xs i d)) ++ flat_map f (drop (suc i) xs) ≡ flat_map f xs
-items_apart f xs i d low = append_assoc (flat_map f (take i xs)) (f (get_or xs i d)) (flat_map f (drop (suc i) xs)) ∙ ap
-    (λ (ys : List ℕ). flat_map f (take i xs) ++ ys) (sym (flat_map-cons f (get_or xs i d) (drop (suc i) xs))) ∙ sym
-    (flat_map-append f (take i xs) (get_or xs i d ∷ drop (suc i) xs)) ∙ ap (λ ys. flat_map f (take i xs ++ ys))
-    (sym (drop-cons xs i d low)) ∙ ap (flat_map f) (take-append-drop i xs)
+items_apart f xs i d low = append_assoc (flat_map f (take i xs)) (f (get_or xs i d)) (flat_map f (drop (suc i) xs))
+    ∙ sym (flat_map-append f (take i xs) (get_or xs i d ∷ drop (suc i) xs))
+    ∙ ap (flat_map f) (rw (drop-cons xs i d low) at (take-append-drop i xs))
 
 -- What stops at one item stops within the text of all.
 pub stops_at_item : {T X : Type 0} (takes stops : T → T → List ℕ → Type 0)
@@ -27,8 +26,8 @@ pub stops_at_item : {T X : Type 0} (takes stops : T → T → List ℕ → Type 
     → ((a b : T) (s t : List ℕ) → stops a b s → stops a b (s ++ t))
     → (f : X → List ℕ) (xs : List X) (i : ℕ) (d : X) (a b c : T) → i < length xs
     → takes a b (flat_map f (take i xs)) → stops b c (f (get_or xs i d)) → stops a c (flat_map f xs)
-stops_at_item takes stops later before f xs i d a b c low took stopped = subst (stops a c) (items_apart f xs i d low)
-    (before a c _ (flat_map f (drop (suc i) xs)) (later a b c _ _ took stopped))
+stops_at_item takes stops later before f xs i d a b c low took stopped =
+    rw (← items_apart f xs i d low) (before a c _ (flat_map f (drop (suc i) xs)) (later a b c _ _ took stopped))
 
 -- The same of items that are told by their numbers.
 pub stops_at_number : {T X : Type 0} (takes stops : T → T → List ℕ → Type 0)
@@ -39,9 +38,9 @@ pub stops_at_number : {T X : Type 0} (takes stops : T → T → List ℕ → Typ
     → stops a c (flat_map f (map item (range_with_len 0 n)))
 stops_at_number takes stops later before f item n i a b c low took stopped =
     stops_at_item takes stops later before f (map item (range_with_len 0 n)) i (item i) a b c
-    (subst (λ (m : ℕ). i < m) (sym (length-map-range_with_len item 0 n)) low)
-    (subst (λ xs. takes a b (flat_map f xs)) (sym (take-map-range_with_len item 0 n i (omega (arith, low)))) took)
-    (subst (λ x. stops b c (f x)) (sym (get_or-map-range_with_len item 0 n i i (item i) low (omega arith))) stopped)
+    (rw (length-map-range_with_len item 0 n) low)
+    (rw (take-map-range_with_len item 0 n i (omega (arith, low))) took)
+    (rw (get_or-map-range_with_len item 0 n i i (item i) low (omega arith)) stopped)
 
 -- One more of them is put.
 pub takes_number : {T X : Type 0} (takes : T → T → List ℕ → Type 0)
@@ -49,13 +48,11 @@ pub takes_number : {T X : Type 0} (takes : T → T → List ℕ → Type 0)
     → (f : X → List ℕ) (item : ℕ → X) (i : ℕ) (a b c : T)
     → takes a b (flat_map f (map item (range_with_len 0 i))) → takes b c (f (item i))
     → takes a c (flat_map f (map item (range_with_len 0 (i + 1))))
-takes_number takes more f item i a b c took next = subst (takes a c) (sym grown) (more a b c _ _ took next)
-  where
-    grown : flat_map f (map item (range_with_len 0 (i + 1))) ≡ flat_map f (map item (range_with_len 0 i)) ++ f (item i)
-    grown =
-        ap (flat_map f) (map-range_with_len_more item 0 i i (omega arith))
-        ∙ flat_map-append f (map item (range_with_len 0 i)) (item i ∷ [])
-        ∙ ap (λ (xs : List ℕ). flat_map f (map item (range_with_len 0 i)) ++ xs) (append-nil (f (item i)))
+takes_number takes more f item i a b c took next = rw (
+  map-range_with_len_more item 0 i i (omega arith),
+  flat_map-append f (map item (range_with_len 0 i)) (item i ∷ []),
+  append-nil (f (item i)),
+) (more a b c _ _ took next)
 
 -- Places at which texts differ.
 
@@ -77,21 +74,14 @@ differs_at given piece at n fits same most inside = record {
   prefix = take n piece;
   byte = get_or piece n 0;
   more = drop (suc n) piece;
-  said = sym (take-append-drop n piece) ∙ ap (λ (xs : Bytes). take n piece ++ xs) (drop-cons piece n 0 inside);
-  alike = sym (take-append-drop n (drop at given)) ∙ ap (λ (xs : Bytes). xs ++ drop n (drop at given)) same ∙ ap
-      (λ (xs : Bytes). take n piece ++ xs) (drop-drop n at given);
-  lacks = subst (LacksFirst (get_or piece n 0)) (drop-drop n at given) (by_end (cases_lt n (length (drop at given))));
-  counted = let e : length (take n piece) ≡ n = length_take in omega (arith, e);
+  said = rw (← drop-cons piece n 0 inside) (sym (take-append-drop n piece));
+  alike = rw (← same, ← drop-drop n at given) (sym (take-append-drop n (drop at given)));
+  lacks = rw (← drop-drop n at given) (elim (cases_lt n (length (drop at given))) [
+    | inl more ↦ rw (drop-cons (drop at given) n 0 more) (λ same. most more inside (sym same))
+    | inr over ↦ rw (drop_all n (drop at given) over) tt
+  ]);
+  counted = omega (arith, length-take n piece);
 }
-  where
-    length_take : length (take n piece) ≡ n
-    length_take = omega (arith, length-take n piece, inside)
-
-    by_end : (n < length (drop at given)) ⊎ (length (drop at given) ≤ n)
-        → LacksFirst (get_or piece n 0) (drop n (drop at given))
-    by_end (inl more) = subst (LacksFirst (get_or piece n 0)) (sym (drop-cons (drop at given) n 0 more))
-        (λ same. most more inside (sym same))
-    by_end (inr over) = subst (LacksFirst (get_or piece n 0)) (sym (drop_all n (drop at given) over)) tt
 
 -- The same of the rest by another name.
 pub differs_behind : (given piece rest : Bytes) (at n : ℕ) → rest ≡ drop at given → n ≤ length rest
@@ -99,11 +89,7 @@ pub differs_behind : (given piece rest : Bytes) (at n : ℕ) → rest ≡ drop a
     → (n < length rest → n < length piece → ¬ (slice_index rest n ≡ slice_index piece n)) → n < length piece
     → Differs (record { at = at; rest = drop at given }) (record { at = at + n; rest = drop (at + n) given }) piece
 differs_behind given piece rest at n is fits same most inside =
-    differs_at given piece at n
-    (subst (λ (xs : Bytes). n ≤ length xs) is fits)
-    (subst (λ (xs : Bytes). take n xs ≡ take n piece) is same)
-    (subst (λ (xs : Bytes). n < length xs → n < length piece → ¬ (slice_index xs n ≡ slice_index piece n)) is most)
-    inside
+    differs_at given piece at n (rw is at fits) (rw is at same) (rw is at most) inside
 
 -- A sink that failed and took a prefix.
 
@@ -127,21 +113,21 @@ prefix_broke taken now faults faults_now held text left prefix rose = record {
 -- It took a prefix of what waited.
 pub held_broke : (taken now : Told) (faults faults_now : ℕ) (held left : Bytes) → TookPrefix taken now held
     → Rose faults faults_now → BrokeOff (buffered taken faults held) (buffered now faults_now left) []
-held_broke taken now faults faults_now held left prefix rose = prefix_broke taken now faults faults_now held [] left
-    (subst (TookPrefix taken now) (sym (append-nil held)) prefix) rose
+held_broke taken now faults faults_now held left prefix rose =
+    prefix_broke taken now faults faults_now held [] left (rw (append-nil held) prefix) rose
 
 -- It took a prefix of a text before which nothing waited.
 pub text_broke : (taken now : Told) (faults faults_now : ℕ) (held text left : Bytes) → held ≡ []
     → TookPrefix taken now text
     → Rose faults faults_now → BrokeOff (buffered taken faults held) (buffered now faults_now left) text
-text_broke taken now faults faults_now held text left none prefix rose = prefix_broke taken now faults faults_now held
-    text left (subst (λ (xs : Bytes). TookPrefix taken now (xs ++ text)) (sym none) prefix) rose
+text_broke taken now faults faults_now held text left none prefix rose =
+    prefix_broke taken now faults faults_now held text left (rw none prefix) rose
 
 -- Where nothing had waited, the sink took a prefix of the text.
 pub text_prefix : (before now : Buffered) (text : Bytes) → before.held ≡ [] → BrokeOff before now text
     → TookPrefix before.taken now.taken text
 text_prefix before now text none broke =
-    let all : text ≡ broke.sent ++ broke.lost = ap (λ (xs : Bytes). xs ++ text) (sym none) ∙ broke.whole in
+    let all : text ≡ broke.sent ++ broke.lost = rw none at broke.whole in
     record {
       count = length broke.sent;
       is = broke.moved ∙ ap (took before.taken)
@@ -152,7 +138,7 @@ text_prefix before now text none broke =
 pub rest_prefix : (before mid now : Buffered) (text : Bytes) → before.held ≡ [] → PassedOn before mid text
     → BrokeOff mid now []
     → TookPrefix before.taken now.taken text
-rest_prefix before mid now text none passed broke = subst (TookPrefix before.taken now.taken) (append-nil text)
+rest_prefix before mid now text none passed broke = rw append-nil at
     (text_prefix before now (text ++ []) none (broke_later before mid now text [] passed broke))
 
 -- Where the text was put whole, and then all that waited was taken, the sink took the text.

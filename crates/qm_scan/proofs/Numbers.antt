@@ -1,9 +1,7 @@
 -- Numbers read digit by digit.
-use Rattle.std.proofs.Common.{◌≡◌, ℕ, suc, leb, ◌+◌, ◌-◌, ◌*◌, ◌^◌, ◌<◌, ◌≤◌, min, Bool, true, false, cond, not, ◌&&◌}
-use Rattle.std.proofs.Common.{eqb, List, [], ◌∷◌, length, take, map, get_or, refl, ap, ◌∙◌, arith, subst, Some, None}
-use Rattle.std.proofs.Common.{inl, inr, ◌⊎◌}
-use Rattle.std.proofs.lemmas.List.{take_more, map_push, length-take-le, length-map}
-use Rattle.std.proofs.lemmas.Bool.{cases_lt, false≢true, ne_eqb, and_parts, leb-true}
+use Rattle.std.proofs.Common.{rules, ◌≡◌, ℕ, ◌+◌, ◌-◌, ◌*◌, ◌^◌, ◌<◌, ◌≤◌, min, true, cond, not, ◌&&◌, eqb, List, []}
+use Rattle.std.proofs.Common.{◌∷◌, length, take, map, get_or, ap, ◌∙◌, arith, Some, None, inl, inr}
+use Rattle.std.proofs.lemmas.{List.take_more, List.map_push, List.length-map, Bool.cases_lt, Bool.and_parts}
 use Rattle.std.proofs.{lemmas.Int.Digits.number_push, lemmas.Int.Digits.number_lt, Math.Nat.pow-le-pow_right}
 use Rattle.std.specs.{Char.is_ascii_digit, Int.Digits.number_from_digits, Int.Digits.AllBelowBase, List.list_all}
 use Rattle.def_text.specs.Digits.{is_number, number_written}
@@ -14,8 +12,7 @@ values ds = map (λ d. d - 48) ds
 
 -- A digit is one of ten bytes.
 pub digit_small : (d : ℕ) → is_ascii_digit d ≡ true → (48 ≤ d) × (d ≤ 57)
-digit_small d is = let both : (leb 48 d ≡ true) × (leb d 57 ≡ true) = and_parts _ _ is in
-    (leb-true 48 d both.0, leb-true d 57 both.1)
+digit_small d is = search rules
 
 -- Their values are below ten.
 values_below : (ds : List ℕ) → list_all is_ascii_digit ds ≡ true → AllBelowBase 10 (values ds)
@@ -26,8 +23,7 @@ values_below (d ∷ ds) all =
 
 -- Digits write a number below the power of ten of their count.
 pub number_small : (ds : List ℕ) → list_all is_ascii_digit ds ≡ true → number_written ds < 10 ^ length ds
-number_small ds all = subst (λ (n : ℕ). number_written ds < 10 ^ n) (length-map ds (λ d. d - 48))
-    (number_lt 10 (values ds) (values_below ds all))
+number_small ds all = rw (length-map ds (λ d. d - 48)) at (number_lt 10 (values ds) (values_below ds all))
 
 -- One digit more.
 pub number_more : (word : List ℕ) (i : ℕ) → i < length word → number_written (take (i + 1) word)
@@ -38,21 +34,11 @@ number_more word i l = ap number_written (take_more word i 0 l) ∙ ap (number_f
 
 -- A clamped number takes one digit more.
 pub clamped_more : (n d clamp : ℕ) → min (min (min n clamp * 10) clamp + d) clamp ≡ min (n * 10 + d) clamp
-clamped_more n d clamp = by_size (cases_lt n clamp)
-  where
-    by_size : (n < clamp) ⊎ (clamp ≤ n) → min (min (min n clamp * 10) clamp + d) clamp ≡ min (n * 10 + d) clamp
-    by_size (inl less) = omega arith
-    by_size (inr more) = omega arith
+clamped_more n d clamp = elim (cases_lt n clamp) [ inl less ↦ omega arith | inr more ↦ omega arith ]
 
 -- A number is a word that is not empty and has digits alone.
 pub number_all : (word : List ℕ) → is_number word ≡ (not (eqb (length word) 0) && list_all is_ascii_digit word)
-number_all [] = refl
-number_all (b ∷ bs) = let some : eqb (suc (length bs)) 0 ≡ false =
-    ne_eqb _ _ (λ (e : suc (length bs) ≡ 0). omega arith) in rw some refl
-
-digits_of_number : (word : List ℕ) → is_number word ≡ true → list_all is_ascii_digit word ≡ true
-digits_of_number [] is = absurd (false≢true is)
-digits_of_number (b ∷ bs) is = is
+number_all word = search rules
 
 ten_power : (i : ℕ) → i ≤ 18 → 10 ^ i ≤ 10 ^ 18
 ten_power i le = pow-le-pow_right {n = 10} (omega arith) {i = i} {j = 18} le
@@ -60,19 +46,8 @@ ten_power i le = pow-le-pow_right {n = 10} (omega arith) {i = i} {j = 18} le
 -- At most 18 digits need no clamp, and fewer of them leave room for one more.
 pub short_unclamped : (word : List ℕ) → length word ≤ 18 → cond (is_number word) (Some (number_written word)) None
     ≡ cond (is_number word) (Some (min (number_written word) (2 ^ 64 - 1))) None
-short_unclamped word short = by_form (is_number word) refl
-  where
-    by_form : (t : Bool) → is_number word ≡ t → cond t (Some (number_written word)) None
-        ≡ cond t (Some (min (number_written word) (2 ^ 64 - 1))) None
-    by_form true is = let e : number_written word ≡ min (number_written word) (2 ^ 64 - 1) =
-        omega (arith, number_small word (digits_of_number word is), ten_power (length word) short) in ap Some e
-    by_form false isnt = refl
+short_unclamped word short = search (rules, number_small)
 
 pub taken_small : (word : List ℕ) (i : ℕ) → i < length word → length word ≤ 18 → list_all is_ascii_digit (take i word)
     ≡ true → number_written (take i word) < 10 ^ 17
-taken_small word i there short all =
-    let long : length (take i word) ≡ i = length-take-le i word (omega arith) in
-    let small : number_written (take i word) < 10 ^ i = subst (λ (n : ℕ). number_written (take i word) < 10 ^ n) long
-    (number_small (take i word) all) in
-    let power : 10 ^ i ≤ 10 ^ 17 = pow-le-pow_right {n = 10} (omega arith) {i = i} {j = 17} (omega arith) in
-    omega arith
+taken_small word i there short all = search (rules, number_small, pow-le-pow_right)

@@ -1,16 +1,14 @@
 -- The text of a finished remesh behind that of its mesh is a checked pair.
-use Rattle.std.proofs.Common.{◌≡◌, ◌<◌, ◌+◌, ◌-◌, ℕ, Bool, true, false, List, [], ◌∷◌, ◌++◌, length, map, take, drop}
-use Rattle.std.proofs.Common.{get_or, sym, ◌∙◌, ap, refl, arith, length-append, length-drop, inl, inr, not}
-use Rattle.std.proofs.lemmas.Bool.{and_parts, eq-eqb, and_from, cases_Bool, not-true, not_from_false, eqb-true}
-use Rattle.std.proofs.lemmas.Bool.{false_from_ne_true, false≢true}
+use Rattle.std.proofs.Common.{rules, ◌≡◌, ◌<◌, ◌+◌, ◌-◌, ℕ, Bool, true, false, List, [], ◌∷◌, ◌++◌, length, map, take}
+use Rattle.std.proofs.Common.{drop, get_or, sym, ◌∙◌, ap, refl, arith, length-append, length-drop, inl, inr, not}
+use Rattle.std.proofs.lemmas.Bool.{and_from, cases_Bool, not-true, not_from_false}
 use Rattle.std.proofs.{Math.Seq.take-append_seam, lemmas.Grind.get_or_after_one, lemmas.List.get_or-append-add}
-use Rattle.std.specs.{List.filter, List.list_all, List.starts_with, Prelude.codes, Prelude.nat_eq}
+use Rattle.std.specs.{List.filter, List.list_all}
 use Rattle.def_certtext.specs.{HeadLine.begins_head, HeadLine.head_line, HeadLine.IsLastLine, CertLines.line_text}
 use Rattle.def_certtext.specs.{Reading.is_hash_line, Reading.TellHow, Settings.AreInRange, declared.CertLine.CertLine}
-use Rattle.def_certtext.specs.{declared.CertLine.TheVariants.Length}
 use Rattle.def_remesh.specs.{TextLaws.IsSolid, TextLaws.made_by, Certified.IsShown, ReadAgain.ends_line}
 use Rattle.def_remesh.specs.{Tasks.remesh_task}
-use Rattle.def_text.specs.{FaceSet.FaceSet, Text.text_soup, declared.letters.TheConstants.HASH}
+use Rattle.def_text.specs.{FaceSet.FaceSet, Text.text_soup}
 use Rattle.remesh_laws.proofs.{Tails.lines_append, Tails.tail_append, ReadAgain.told_law}
 use Rattle.{qm_obj.proofs.TailLemmas.passes_at, def_flow.specs.declared.net.Settings.Settings, def_io.specs.Bytes.Bytes}
 use Rattle.{def_io.specs.Bytes.Lines, def_io.specs.Lines.lines_of, def_recheck.specs.Accepting.AcceptsLaw}
@@ -22,17 +20,8 @@ pub record IsHeadTest (begins_so : Bytes → Bool) : Type 0 where
   pub plain : (line : Bytes) → is_hash_line line ≡ false → begins_so line ≡ false
 
 -- No line without a mark begins as a head line.
-pub plain_begins : (rest line : Bytes) → is_hash_line line ≡ false → starts_with nat_eq line (HASH ∷ rest) ≡ false
-plain_begins rest [] plain = refl
-plain_begins rest (byte ∷ line) plain =
-    false_from_ne_true _ (λ on. false≢true (sym plain ∙ eq-eqb byte 35 (sym (eqb-true 35 byte (and_parts _ _ on).0))))
-
 head_test : IsHeadTest begins_head
-head_test = record {
-  head = λ settings auto. refl;
-  cert = elim [ Length n ↦ refl | _ ↦ refl ];
-  plain = plain_begins (codes "quadq 1 remesh");
-}
+head_test = search rules
 
 -- Where the marked lines are those of a certificate, none passes the test.
 none_begins : (begins_so : Bytes → Bool) → IsHeadTest begins_so → (behind : Lines) (said : List CertLine)
@@ -53,12 +42,6 @@ none_begins begins_so test (line ∷ behind) (one ∷ said) texts = elim (cases_
       (none_begins begins_so test behind (one ∷ said) (rw off at texts))
 ]
 
--- Lines of which the first passes a test are some.
-some_line : (begins_so : Bytes → Bool) (lines : Lines) → begins_so [] ≡ false
-    → begins_so (get_or lines 0 []) ≡ true → 0 < length lines
-some_line begins_so [] empty begins = absurd (false≢true (sym empty ∙ begins))
-some_line begins_so (line ∷ lines) empty begins = omega arith
-
 -- Behind the text of a mesh the text of a remesh begins with its head line, and no line behind that passes such a test.
 module _ (settings : Settings) (auto : Bool) (old text : Bytes) (soup : FaceSet) (range : AreInRange settings auto)
     (ends : ends_line old ≡ true) (solid : IsSolid soup)
@@ -72,8 +55,7 @@ module _ (settings : Settings) (auto : Bool) (old text : Bytes) (soup : FaceSet)
       (made_by settings auto is.finished.certificates)).1 refl
 
   place : (n : ℕ) → get_or (lines_of (old ++ text)) (length (lines_of old) + n) [] ≡ get_or (lines_of text) n []
-  place n = ap (λ (ls : Lines). get_or ls (length (lines_of old) + n) []) lines
-      ∙ get_or-append-add (lines_of old) (lines_of text) n []
+  place n = search (rules, lines, get_or-append-add)
 
   pub head_there : get_or (lines_of (old ++ text)) (length (lines_of old)) [] ≡ head_line settings auto
   head_there =
@@ -98,15 +80,7 @@ module _ (settings : Settings) (auto : Bool) (old text : Bytes) (soup : FaceSet)
         (none_begins begins_so test behind tells.certificates.said tells.certificates.texts) within))
 
     pub last_line : IsLastLine begins_so (lines_of (old ++ text)) (length (lines_of old))
-    last_line =
-        let zero_more : length (lines_of old) + 0 ≡ length (lines_of old) = omega arith in
-        let some = some_line begins_so (lines_of text) (test.plain [] refl) (ap begins_so (sym (place 0))
-        ∙ ap (λ n. begins_so (get_or (lines_of (old ++ text)) n [])) zero_more ∙ begins) in
-        record {
-          there = omega (arith, ap length lines, length-append (lines_of old) (lines_of text), some);
-          begins = begins;
-          last = last;
-        }
+    last_line = search (rules, begins, lines, length-append, last)
 
 pub accepts_law : AcceptsLaw
 accepts_law settings auto old text soup range said ends solid is = record {

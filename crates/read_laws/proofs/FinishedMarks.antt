@@ -1,6 +1,6 @@
 -- The `l` lines that a command wrote are read again as the marks along the chains of its marked arcs.
-use Rattle.std.proofs.Common.{◌≡◌, ◌+◌, ◌-◌, ◌<◌, ◌++◌, ℕ, zero, suc, Bool, true, List, [], ◌∷◌, length, map, filter}
-use Rattle.std.proofs.Common.{get_or, Option, inl, inr, refl, sym, ap, subst, ◌∙◌, arith}
+use Rattle.std.proofs.Common.{rules, ◌≡◌, ◌+◌, ◌-◌, ◌<◌, ◌++◌, ℕ, zero, suc, Bool, true, List, [], ◌∷◌, length, map}
+use Rattle.std.proofs.Common.{filter, get_or, Option, inl, inr, refl, sym, ap, subst, ◌∙◌, arith}
 use Rattle.std.proofs.lemmas.List.FromFn.{get_or-range_with_len, length-map-range_with_len, length-range_with_len}
 use Rattle.std.proofs.{lemmas.Bool.and_from, lemmas.Bool.cases_lt, lemmas.Bool.cases_Bool, lemmas.List.append_assoc}
 use Rattle.std.proofs.{lemmas.List.Folds.flat_map-map}
@@ -12,7 +12,7 @@ use Rattle.def_io.specs.{Bytes.Bytes, Lines.lines_of}
 use Rattle.def_layout.specs.{Layouts.gluing_of, Layouts.Layout, Lengths.AreLengths, Lengths.Lengths}
 use Rattle.def_marks.specs.{Lines.marks_in, MarkedText.arc_chain, MarkedText.chain_text, MarkedText.is_marked_arc}
 use Rattle.def_readlaws.specs.ReadChains.{AreHashLines, FinishedMarksLaw, IsChainOf, marked_arc_chains}
-use Rattle.def_remesh.specs.{NewPoints.lengths_in, NewSoup.spaced_place, NewSoup.spaced_soup, ReadAgain.ends_line}
+use Rattle.def_remesh.specs.{NewPoints.lengths_in, NewSoup.spaced_soup, ReadAgain.ends_line}
 use Rattle.def_text.specs.{Canonical.canonical_text, FaceSet.FaceSet, Text.numbers_to}
 use Rattle.def_written.specs.{Edges.on_arc, Numbers.vertex_number, Numbers.vertices, Points.arc_point, Points.IsPoint}
 use Rattle.remesh_laws.proofs.{Asides.ends_lines, MarkedLines.marked_is, ReadAgain.kept_allowed}
@@ -56,8 +56,7 @@ each_passing P f p (x ∷ xs) each =
 module _ (soup : FaceSet) (layout : Layout) (shares : Option (List ℕ)) (new : Lengths) (is : IsSomeLayout layout)
     (len : AreLengths (gluing_of layout) new) where
   many : length (spaced_soup soup layout shares new).pos ≡ vertices (gluing_of layout) new
-  many = length-map-range_with_len (spaced_place soup.faces layout soup.pos shares new) 0
-      (vertices (gluing_of layout) new)
+  many = search (rules, length-map-range_with_len)
 
   chain_of : (a : ℕ) → a < length layout.arcs
       → IsChainOf (spaced_soup soup layout shares new) (arc_chain (gluing_of layout) new a)

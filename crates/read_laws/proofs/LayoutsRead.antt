@@ -1,5 +1,5 @@
 -- The layouts of bytes that are read.
-use Rattle.std.proofs.Common.{◌≡◌, sym, ◌∙◌, refl, Ok, Some, None, ◌≤◌}
+use Rattle.std.proofs.Common.{rules, ◌≡◌, sym, ◌∙◌, refl, Ok, Some, None, ◌≤◌}
 use Rattle.def_layout.specs.{Layouts.gluing_of, Lengths.AreLengths}
 use Rattle.def_remesh.specs.{NewPoints.lengths_in, Tasks.Task}
 use Rattle.def_run.specs.declared.command.Command.TheVariants.{Coarse, Crease, Fit, Remesh, Size}
@@ -77,5 +77,4 @@ module _ (command : Command) (bytes text : Bytes) (wrote : WritesFinished (asks_
 
   pub finished_lengths : 1 ≤ wrote.task.settings.floor → AreLengths (gluing_of wrote.shown.finished.layout)
       (lengths_in (used wrote.shown.finished.certificates).x)
-  finished_lengths some = used_lengths wrote.task.wish wrote.shown.finished.layout wrote.task.settings
-      wrote.task.rising wrote.shown.finished.certificates some wrote.shown.finished.lengths
+  finished_lengths some = search (rules, used_lengths)

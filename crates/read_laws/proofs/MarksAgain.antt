@@ -1,13 +1,13 @@
 -- The lines of chains behind a canonical text are read again as the marks along these chains.
-use Rattle.std.proofs.Common.{◌≡◌, ◌+◌, ◌<◌, ◌≤◌, ◌&&◌, ◌||◌, ◌^◌, ℕ, pos, suc, true, false, cond, not, List, [], ◌∷◌}
-use Rattle.std.proofs.Common.{◌++◌, length, map, get_or, refl, sym, ap, ◌∙◌, arith, subst, eqb, ltb, is_some, Ok}
+use Rattle.std.proofs.Common.{rules, ◌≡◌, ◌+◌, ◌<◌, ◌≤◌, ◌&&◌, ◌||◌, ◌^◌, ℕ, pos, suc, true, false, cond, not, List, []}
+use Rattle.std.proofs.Common.{◌∷◌, ◌++◌, length, map, get_or, refl, sym, ap, ◌∙◌, arith, subst, eqb, ltb, is_some, Ok}
 use Rattle.std.proofs.lemmas.Bool.{and_parts, and_right, eqb-true, ltb-false, ltb-true, not-true}
 use Rattle.std.proofs.{lemmas.List.append-nil, lemmas.List.append_assoc, lemmas.List.take_all}
 use Rattle.std.proofs.{lemmas.List.Folds.flat_map-map, lemmas.List.Sums.sum_by-cons}
 use Rattle.std.specs.List.{before_first, count_by, flat_map, list_all, list_any}
 use Rattle.def_io.specs.{Bytes.Bytes, Bytes.Lines, Lines.lines_of}
-use Rattle.def_marks.specs.Lines.{corner_fails, corners_of, first_fail, line_chain, line_fails, marks_of, named_chain}
-use Rattle.def_marks.specs.Lines.{Placed, placed_lines, text_lines, vertex_lines_in}
+use Rattle.def_marks.specs.Lines.{first_fail, line_chain, line_fails, marks_of, Placed, placed_lines, text_lines}
+use Rattle.def_marks.specs.Lines.{vertex_lines_in}
 use Rattle.def_marks.specs.{Chains.marks_along, Chains.runs_along, MarkedText.chain_text}
 use Rattle.def_readlaws.specs.ReadChains.{AreHashLines, IsChainOf, MarksAgainLaw}
 use Rattle.def_text.specs.{Canonical.canonical_text, Canonical.micro_text, Decimal.is_far, FaceSet.FaceSet}
@@ -27,12 +27,7 @@ use Rattle.{def_remesh.specs.ReadAgain.ends_line, qm_dec.proofs.ReadBack.none_fi
 
 -- Tame bytes have no comment.
 tame_whole : (line : Bytes) → list_all is_tame line ≡ true → before_first is_hash line ≡ line
-tame_whole line tame = take_all _ _
-    (omega (arith, none_first is_hash line (all_weaker is_tame (λ b. not (is_hash b)) no_hash line tame)))
-  where
-    no_hash : (b : ℕ) → is_tame b ≡ true → not (is_hash b) ≡ true
-    no_hash b is = (and_parts (not (eqb b 35)) (not (eqb b 92)) (and_parts (not (eqb b 10) && not (eqb b 13))
-        (not (eqb b 35) && not (eqb b 92)) is).1).0
+tame_whole line tame = search (rules, take_all, none_first, all_weaker)
 
 -- The logical line of a line to which the next is not joined, and those of such lines.
 abbrev lone : (number : ℕ) (line : Bytes) → Logical
@@ -60,11 +55,7 @@ hash_other (byte ∷ line) is = rw (eqb-true byte 35 is) (record { whole = and_r
 
 letter_other : (letter : ℕ) (ws : Words) → is_blank letter ≡ false → eqb letter 108 ≡ false
     → IsLine (line_text letter ws) → ((k : ℕ) → k < length ws → IsWord (get_or ws k [])) → IsOther (line_text letter ws)
-letter_other letter ws bare off line each = record {
-  whole = no_continuation (line_text letter ws) line.tame;
-  other = ap (λ (t : Bytes). begins_with 108 (words t)) (tame_whole (line_text letter ws) line.tame)
-      ∙ (ap (begins_with 108) (line_words letter ws bare each) ∙ off);
-}
+letter_other letter ws bare off line each = search (rules, no_continuation, tame_whole, line_words)
 
 position_words : (position : Position) → is_position position ≡ true → (k : ℕ) → k < length (map micro_text position)
     → IsWord (get_or (map micro_text position) k [])
@@ -80,13 +71,7 @@ record Gives (soup : FaceSet) (placed : List Placed) (chains : List (List ℕ)) 
 module _ (soup : FaceSet) (all : ℕ) where
   gives_other : (p : Placed) (rest : List Placed) (chains : List (List ℕ)) → begins_with 108 (words p.line.text) ≡ false
       → Gives soup rest chains → Gives soup (p ∷ rest) chains
-  gives_other p rest chains off gives = record {
-    fails = ap (λ t. cond t (corner_fails soup p.all p.before p.line.number (corners_of p.line)) []
-        ++ flat_map (line_fails soup) rest) off ∙ gives.fails;
-    along = λ d.
-        ap (λ t. runs_along soup.faces (cond t (named_chain soup.names p.all p.before (corners_of p.line)) []) d
-        || list_any (λ chain. runs_along soup.faces chain d) (map (line_chain soup) rest)) off ∙ gives.along d;
-  }
+  gives_other p rest chains off gives = search rules
 
   pass : (chains : List (List ℕ)) (lines rest : Lines) → ((k : ℕ) → k < length lines → IsOther (get_or lines k []))
       → ((before n : ℕ) → Gives soup (placed_lines all before (lone_lines n rest)) chains) → (before n : ℕ)
@@ -118,9 +103,7 @@ module _ (soup : FaceSet) (all : ℕ) where
 count_more : (m : ℕ) (lines rest : Lines) → ((n : ℕ) → m ≤ count_by is_vertex_line (lone_lines n rest)) → (n : ℕ)
     → m ≤ count_by is_vertex_line (lone_lines n (lines ++ rest))
 count_more m [] rest many n = many n
-count_more m (line ∷ lines) rest many n =
-    let one = sum_by-cons (λ l. cond (is_vertex_line l) 1 0) (lone n line) (lone_lines (n + 1) (lines ++ rest)) in
-    omega (arith, one, count_more m lines rest many (n + 1))
+count_more m (line ∷ lines) rest many n = search (rules, sum_by-cons, count_more m lines rest many (n + 1))
 
 count_positions : (ps : Positions) (rest : Lines) (n : ℕ) → list_all is_position ps ≡ true
     → length ps ≤ count_by is_vertex_line (lone_lines n (map position_line ps ++ rest))

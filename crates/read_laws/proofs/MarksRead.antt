@@ -1,15 +1,14 @@
 -- The marks that the text of a mesh says are marks of the mesh.
-use Rattle.std.proofs.Common.{◌≡◌, ℕ, ◌+◌, ◌<◌, Bool, false, eqb, ◌&&◌, ◌||◌, List, [], ◌∷◌, Option, Some, None}
-use Rattle.std.proofs.Common.{is_some, sym, subst, ap, ◌∙◌, arith, map, refl, Ok, Err, Result}
+use Rattle.std.proofs.Common.{rules, ◌≡◌, ℕ, ◌<◌, Bool, ◌&&◌, ◌||◌, List, [], ◌∷◌, Option, Some, is_some, sym, subst}
+use Rattle.std.proofs.Common.{ap, ◌∙◌, arith, map, refl, Ok, Err, Result}
 use Rattle.std.proofs.{lemmas.List.length-map, lemmas.List.FromFn.length-range_with_len}
 use Rattle.std.proofs.{lemmas.List.FromFn.get_or-map-range_with_len}
 use Rattle.std.specs.{List.flat_map, List.list_any, Result.result_map_both}
-use Rattle.def_fit.specs.FitTasks.{asides_by, Asides, kept_in, wished_in}
-use Rattle.def_marks.specs.Chains.{is_along_chains, link_at, marks_along, runs_along, runs_between, step_places}
+use Rattle.def_fit.specs.FitTasks.{asides_by, Asides, kept_in}
+use Rattle.def_marks.specs.Chains.{is_along_chains, marks_along, runs_along}
 use Rattle.def_marks.specs.{Lines.first_fail, Lines.line_chain, Lines.line_fails, Lines.marks_in, Lines.text_lines}
 use Rattle.def_marks.specs.{declared.fail.MarkFail.MarkFail}
-use Rattle.def_mesh.specs.{Darts.all_darts, Darts.darts, Darts.from_of, Darts.IsTwin, Darts.to_of, Faces.Faces}
-use Rattle.def_mesh.specs.{Manifold.IsManifold}
+use Rattle.def_mesh.specs.{Darts.all_darts, Darts.darts, Darts.IsTwin, Faces.Faces, Manifold.IsManifold}
 use Rattle.def_patches.specs.{Chosen.AreKeptMarks, declared.Keep.Keep}
 use Rattle.def_readlaws.specs.ReadMarks.{AsidesInLaw, MarksInLaw}
 use Rattle.{def_cut.specs.FullCut.is_on, def_feature.specs.Marks.AreMarks, def_io.specs.Bytes.Bytes}
@@ -24,19 +23,12 @@ turned a b c e = grind (arith)
 -- The mark of a dart.
 mark_along : (faces : Faces) (chains : List (List ℕ)) (d : ℕ) → d < darts faces → is_on (marks_along faces chains) d
     ≡ is_along_chains faces chains d
-mark_along faces chains d low = get_or-map-range_with_len (is_along_chains faces chains) 0 (darts faces) d d false low
-    (omega arith)
+mark_along faces chains d low = search (rules, get_or-map-range_with_len)
 
 -- Twins run along the same chains.
 twins_along : (faces : Faces) (d e : ℕ) → IsTwin faces d e → (chain : List ℕ) → runs_along faces chain e
     ≡ runs_along faces chain d
-twins_along faces d e is chain = λ i. list_any (λ k. between (link_at chain k) (link_at chain (k + 1)) i)
-    (step_places chain)
-  where
-    between : (u v : ℕ) → runs_between faces u v e ≡ runs_between faces u v d
-    between u v = ap (λ x. (eqb x u && eqb (to_of faces e) v) || (eqb x v && eqb (to_of faces e) u)) is.1
-        ∙ (ap (λ y. (eqb (to_of faces d) u && eqb y v) || (eqb (to_of faces d) v && eqb y u)) is.2
-        ∙ turned (eqb (from_of faces d) u) (eqb (to_of faces d) v) (eqb (from_of faces d) v) (eqb (to_of faces d) u))
+twins_along faces d e is chain = search rules
 
 -- The marks along chains are those of inner edges, equal at twins.
 pub chain_marks : (faces : Faces) (chains : List (List ℕ)) → IsManifold faces
@@ -68,14 +60,11 @@ marks_in_law bytes soup marks is said =
 -- What is kept where both are read.
 kept_of : (kept : Result (Option (List Bool)) MarkFail) (wishes : Result (List ℕ) MarkFail) (asides : Asides)
     → asides_by kept wishes ≡ Ok asides → kept ≡ Ok asides.kept
-kept_of (Ok kept) (Ok wishes) asides said = let same : record { kept = kept; wishes = wishes } ≡ asides = cc said in
-    ap (λ (a : Asides). Ok a.kept) same
-kept_of _ _ asides said = cc said
+kept_of kept wishes h1 = search rules
 
 kept_marks : (keep : Keep) (bytes : Bytes) (soup : FaceSet) (kept : Option (List Bool)) → IsMeshText bytes soup
     → kept_in keep bytes soup ≡ Ok kept → AreKeptMarks soup.faces kept
-kept_marks keeps.Nothing bytes soup kept is said = let same : ◌≡◌ {A = Option (List Bool)} None kept = cc said in
-    subst (AreKeptMarks soup.faces) same tt
+kept_marks keeps.Nothing bytes soup kept is said = search rules
 kept_marks keeps.Lines bytes soup kept is said = by_marks (marks_in bytes soup) refl said
   where
     by_marks : (r : Result (List Bool) MarkFail) → marks_in bytes soup ≡ r → result_map_both Some (λ fail. fail) r
@@ -85,5 +74,4 @@ kept_marks keeps.Lines bytes soup kept is said = by_marks (marks_in bytes soup) 
         subst (AreKeptMarks soup.faces) same (marks_in_law bytes soup marks is read)
 
 pub asides_in_law : AsidesInLaw
-asides_in_law fit bytes soup asides is said = kept_marks fit.keep bytes soup asides.kept is
-    (kept_of (kept_in fit.keep bytes soup) (wished_in fit.aim bytes soup) asides said)
+asides_in_law fit bytes soup asides is said = search (rules, kept_marks)

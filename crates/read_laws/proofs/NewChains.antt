@@ -1,13 +1,13 @@
 -- The chains of the arcs of a new mesh are chains of its edges, and name each edge once.
-use Rattle.std.proofs.Common.{◌≡◌, ◌⊎◌, ◌+◌, ◌-◌, ◌<◌, ◌&&◌, ℕ, Bool, true, false, eqb, length, map, inl, inr, sym, ap}
+use Rattle.std.proofs.Common.{rules, ◌≡◌, ◌⊎◌, ◌+◌, ◌-◌, ◌<◌, ℕ, Bool, true, false, length, map, inl, inr, sym, ap}
 use Rattle.std.proofs.Common.{subst, ◌∙◌, arith}
-use Rattle.std.proofs.lemmas.Bool.{and_from, and_parts, eq-eqb, eqb-true, or_cases, or_left, or_right}
+use Rattle.std.proofs.lemmas.Bool.{and_from, eq-eqb, or_left, or_right}
 use Rattle.std.proofs.lemmas.List.FromFn.{get_or-map-range_with_len, get_or-range_with_len, length-map-range_with_len}
 use Rattle.std.proofs.lemmas.List.FromFn.{length-range_with_len}
 use Rattle.std.proofs.{lemmas.List.Folds.list_any_at, lemmas.List.Sums.list_all-from_AllPass}
 use Rattle.def_layout.specs.{Layouts.gluing_of, Layouts.Layout, Layouts.vertex_at, Arcs.long_at, Gluings.Gluing}
 use Rattle.def_layout.specs.{Lengths.AreLengths, Lengths.Lengths, Surfaces.IsSurface}
-use Rattle.def_layoutnet.specs.MeshLayouts.{IsSomeLayout}
+use Rattle.{def_layoutnet.specs.MeshLayouts.IsSomeLayout, std.specs.List.range_with_len}
 use Rattle.def_marks.specs.{Chains.is_chain, Chains.is_edge, Chains.link_at, Chains.runs_between, Chains.step_places}
 use Rattle.def_marks.specs.{MarkedText.arc_chain}
 use Rattle.def_mesh.specs.{Darts.darts, Darts.from_of, Darts.to_of, Faces.Faces}
@@ -20,18 +20,13 @@ use Rattle.written_laws.proofs.Courses.{edge_points}
 use Rattle.written_laws.proofs.{NewDarts.dart_low, NewDarts.dart_number, NewDarts.number_from, NewDarts.number_to}
 use Rattle.written_laws.proofs.{EdgeNumbers.number_same, Shape.laid_law, Shape.new_manifold_law, Between.simple_from}
 use Rattle.read_laws.proofs.{LayoutsRead.finished_layout, LayoutsRead.finished_lengths, MarksRead.chain_marks}
-use Rattle.{std.specs.List.range_with_len, def_certtext.specs.CertLines.used, def_remesh.specs.NewPoints.lengths_in}
 
 -- The ends of a dart that runs between two vertices.
 abbrev HasEnds : (faces : Faces) (u v d : ℕ) → Type 0
 HasEnds faces u v d = ((from_of faces d ≡ u) × (to_of faces d ≡ v)) ⊎ ((from_of faces d ≡ v) × (to_of faces d ≡ u))
 
 ends_of : (faces : Faces) (u v d : ℕ) → runs_between faces u v d ≡ true → HasEnds faces u v d
-ends_of faces u v d runs = elim (or_cases (eqb (from_of faces d) u && eqb (to_of faces d) v)
-    (eqb (from_of faces d) v && eqb (to_of faces d) u) runs) [
-      | inl both ↦ inl (eqb-true _ _ (and_parts _ _ both).0, eqb-true _ _ (and_parts _ _ both).1)
-      | inr both ↦ inr (eqb-true _ _ (and_parts _ _ both).0, eqb-true _ _ (and_parts _ _ both).1)
-    ]
+ends_of faces u v d runs = search rules
 
 module _ (l : Gluing) (x : Lengths) where
   -- The number of a point of an arc.
@@ -120,6 +115,4 @@ new_chains layout new is len undoubled =
     }
 
 pub finished_chains_law : FinishedChainsLaw
-finished_chains_law command bytes text wrote range = new_chains wrote.shown.finished.layout
-    (lengths_in (used wrote.shown.finished.certificates).x) (finished_layout command bytes text wrote)
-    (finished_lengths command bytes text wrote range.floor.low) wrote.shown.finished.undoubled
+finished_chains_law command bytes text wrote range = search (rules, new_chains, finished_layout, finished_lengths)

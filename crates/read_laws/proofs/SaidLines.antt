@@ -1,7 +1,7 @@
 -- What one line says, where it is not refused.
-use Rattle.std.proofs.Common.{◌≡◌, ℕ, ◌+◌, ◌^◌, ◌≤◌, Bool, true, false, cond, not, ◌&&◌, List, [], ◌∷◌, length, take}
-use Rattle.std.proofs.Common.{map, refl, sym, ap, ◌∙◌, arith, ltb, leb, eqb, ◌++◌, Some, None, inl, inr}
-use Rattle.std.proofs.lemmas.Bool.{and_from, eqb-true, false≢true, leb-false, ne_eqb, or_parts, and_parts, cases_Bool}
+use Rattle.std.proofs.Common.{rules, ◌≡◌, ℕ, ◌+◌, ◌^◌, ◌≤◌, Bool, true, false, cond, not, ◌&&◌, List, [], ◌∷◌, length}
+use Rattle.std.proofs.Common.{take, map, refl, ap, ◌∙◌, arith, ltb, leb, eqb, ◌++◌, Some, None, inl, inr}
+use Rattle.std.proofs.lemmas.Bool.{and_from, leb-false, or_parts, and_parts, cases_Bool}
 use Rattle.std.proofs.{lemmas.List.length-map, lemmas.List.length-append, lemmas.Bool.Decides.nat_tests}
 use Rattle.std.proofs.{lemmas.List.Folds.list_all-append, lemmas.List.Sums.sum_by_push}
 use Rattle.std.specs.List.{list_all, list_any, count_by, flat_map}
@@ -28,9 +28,7 @@ pub record IsSaid (vertices faces : ℕ) (line : Logical) (said : Reading) : Typ
 
 -- No word is two letters.
 one_letter : (a b : ℕ) → (a ≡ b → ⊥) → (word : List ℕ) → is_letter a word ≡ true → is_letter b word ≡ false
-one_letter a b ne (c ∷ []) is = ne_eqb c b (λ (e : c ≡ b). ne (sym (eqb-true c a is) ∙ e))
-one_letter a b ne [] is = refl
-one_letter a b ne (c ∷ d ∷ ds) is = refl
+one_letter a b h1 word h2 = search rules
 
 -- An index that is not out names a positive number.
 positive_at : (vertices : ℕ) (word : List ℕ) → is_out vertices word ≡ false → ltb 0 (resolved vertices word) ≡ true
@@ -46,21 +44,11 @@ positive_all vertices (w ∷ ws) inside =
 -- Three numbers in range are a position.
 near_of : (ws : Words) → is_position_count (length ws) ≡ true → list_any (λ word. is_far (rounded word)) (take 3 ws)
     ≡ false → is_position (map rounded (take 3 ws)) ≡ true
-near_of (a ∷ b ∷ c ∷ ws) count near =
-    let first = or_parts (is_far (rounded a)) (list_any (λ word. is_far (rounded word)) (b ∷ c ∷ [])) near in
-    let second = or_parts (is_far (rounded b)) (list_any (λ word. is_far (rounded word)) (c ∷ [])) first.1 in
-    let third = or_parts (is_far (rounded c)) false second.1 in
-    rw (first.0, second.0, third.0) refl
-near_of _ count near = absurd (false≢true count)
+near_of ws h1 h2 = search (rules, or_parts)
 
 module _ (vertices faces : ℕ) (line : Logical) where
   said_passed : is_vertex_line line ≡ false → is_face_line line ≡ false → IsSaid vertices faces line Passed
-  said_passed no_vertex no_face = record {
-    vertex = rw no_vertex refl;
-    face = rw no_face refl;
-    few = (λ few. omega arith, λ few. omega arith);
-    fine = (refl, refl, refl);
-  }
+  said_passed no_vertex no_face = search rules
 
   said_refused : (fail : ObjFail) → refusal_in (Refused fail) ≡ [] → IsSaid vertices faces line (Refused fail)
   said_refused fail none = cc none
@@ -74,15 +62,7 @@ module _ (vertices faces : ℕ) (line : Logical) where
       → is_face_line line ≡ false → Says (cond many (Refused (Limit limits.Vertices line.number))
       (cond (not (count && numbers)) (Refused (Syntax line.number))
       (cond far (Refused (Range line.number)) (Position (map rounded (take 3 ws))))))
-  by_vertex ws false true true false m c f vertex no_face =
-      let low = leb-false (2 ^ 21) vertices m in
-      λ _. record {
-        vertex = rw vertex refl;
-        face = rw no_face refl;
-        few = (λ few. omega (arith, low), λ few. omega arith);
-        fine = (and_from _ _ (near_of ws c f) refl, refl, refl);
-      }
-  by_vertex ws _ _ _ _ m c f vertex no_face = said_refused _
+  by_vertex ws many count numbers far h1 h2 h3 h4 h5 = search (rules, near_of)
 
   by_face : (ws : Words) (many words_fit four out : Bool) → leb (2 ^ 20) faces ≡ many → eqb (length ws) 4 ≡ four
       → list_any (λ word. is_out vertices (used_index word)) ws ≡ out → is_vertex_line line ≡ false
@@ -109,8 +89,7 @@ module _ (vertices faces : ℕ) (line : Logical) where
       (ap (begins_with 102) are ∙ one_letter 118 102 (λ (e : ◌≡◌ {A = ℕ} 118 102). omega arith) word v-is)
   by_letter word ws false true are v-is f-is = by_face ws _ _ _ _ refl refl refl (ap (begins_with 118) are ∙ v-is)
       (ap (begins_with 102) are ∙ f-is)
-  by_letter word ws false false are v-is f-is =
-      λ _. said_passed (ap (begins_with 118) are ∙ v-is) (ap (begins_with 102) are ∙ f-is)
+  by_letter word ws false false are v-is f-is = search rules
 
   by_words : (ws : Words) → words line.text ≡ ws → Says (words_reading line.number vertices faces ws)
   by_words [] are = λ _. said_passed (ap (begins_with 118) are) (ap (begins_with 102) are)

@@ -1,6 +1,6 @@
 -- The soup of a text that is read can be written, and a mesh of it is what all laws of meshes ask for.
-use Rattle.std.proofs.Common.{◌≡◌, ℕ, zero, suc, ◌-◌, ◌^◌, ◌≤◌, Bool, true, List, [], ◌∷◌, ◌++◌, length, map, refl, sym}
-use Rattle.std.proofs.Common.{ap, ◌∙◌, arith, subst, ltb, eqb, Ok, get_or}
+use Rattle.std.proofs.Common.{rules, ◌≡◌, ℕ, zero, suc, ◌-◌, ◌^◌, ◌≤◌, Bool, true, List, [], ◌∷◌, ◌++◌, length, map}
+use Rattle.std.proofs.Common.{refl, sym, ap, ◌∙◌, arith, subst, ltb, eqb, Ok}
 use Rattle.std.proofs.{lemmas.Bool.and_from, lemmas.Bool.cond_both, lemmas.Bool.lt-ltb, lemmas.Bool.ltb-true}
 use Rattle.std.proofs.{lemmas.List.append-nil, lemmas.List.length-map, lemmas.List.map-append}
 use Rattle.std.proofs.{lemmas.List.Folds.list_all-append, lemmas.List.Folds.list_all-map}
@@ -36,8 +36,7 @@ used_near ps fs (suc n) few near =
 -- What passes a test passes a weaker one.
 pub all_weaker : {X : Type 0} (p q : X → Bool) → ((x : X) → p x ≡ true → q x ≡ true) → (xs : List X)
     → list_all p xs ≡ true → list_all q xs ≡ true
-all_weaker p q weaker xs all = list_all-from_AllPass q xs
-    (λ i d low. weaker (get_or xs i d) (AllPass-from_list_all p xs all i d low))
+all_weaker p q weaker xs all = search (rules, list_all-from_AllPass, AllPass-from_list_all)
 
 -- An accepted text has no refusal.
 accepted : (fails : List ObjFail) (x soup : FaceSet) → first_refusal fails x ≡ Ok soup → (fails ≡ []) × (x ≡ soup)

@@ -1,13 +1,13 @@
 -- What is written for bytes that are read: it is accepted behind them, and its vertices lie where they are said to.
-use Rattle.std.proofs.Common.{◌++◌, false, [], None, length, inr, sym, ap, ◌∙◌, arith, refl}
+use Rattle.std.proofs.Common.{rules, ◌++◌, [], None, length, inr, sym, ap, ◌∙◌, arith, refl}
 use Rattle.std.proofs.{lemmas.Bool.false≢true, lemmas.List.FromFn.get_or-map-range_with_len}
-use Rattle.read_laws.proofs.Accepted.{accepts_law, head_there, last_line, plain_begins, IsHeadTest}
+use Rattle.read_laws.proofs.Accepted.{accepts_law, head_there, last_line, IsHeadTest}
 use Rattle.read_laws.proofs.{LayoutsRead.finished_layout, LayoutsRead.finished_lengths, LayoutsRead.task_layout_law}
 use Rattle.read_laws.proofs.{Soups.mesh_text_law}
 use Rattle.def_certtext.specs.{CertLines.alone, CertLines.Certificates, CertLines.used, Risings.third_if}
-use Rattle.def_certtext.specs.{declared.CertLine.TheVariants.Length, declared.certs.Rising.Rising}
+use Rattle.def_certtext.specs.{declared.certs.Rising.Rising}
 use Rattle.def_flow.specs.{Admissible.deviation, Admissible.entries, Network.Network, declared.net.Settings.Settings}
-use Rattle.def_io.specs.{Bytes.Bytes, Lines.lines_of}
+use Rattle.{def_io.specs.Bytes.Bytes, def_io.specs.Lines.lines_of, embedding_laws.proofs.OneLayout.embedding_law}
 use Rattle.def_layout.specs.{Arcs.long_at, Layouts.gluing_of, Layouts.Layout, Layouts.vertex_at}
 use Rattle.def_readlaws.specs.{ReadPairs.AcceptsTextLaw, ReadSpots.FinishedSpotsLaw, ReadSpots.RefinedSpotsLaw}
 use Rattle.def_readlaws.specs.{ReadSpots.SpotTextLaw}
@@ -17,9 +17,8 @@ use Rattle.def_remesh.specs.{NewSoup.spaced_place, Remeshed.AreKeptBy, Remeshed.
 use Rattle.def_run.specs.{Checking.begins_fit, Checking.HasFitText, Checking.WritesAccepted, Check.head_of}
 use Rattle.def_run.specs.{MarkLines.begins_mark}
 use Rattle.map_laws.proofs.{OldPoints.spacing_is, SpotPlaces.spot_law}
-use Rattle.embedding_laws.proofs.OneLayout.{embedding_law}
 use Rattle.written_laws.proofs.{Shape.multiple_law, Spacings.even_law}
-use Rattle.{std.specs.Prelude.codes, def_cut.specs.Traced.traced_marks, def_layoutnet.specs.LayoutNet.IsNetOf}
+use Rattle.{def_cut.specs.Traced.traced_marks, def_layoutnet.specs.LayoutNet.IsNetOf}
 use Rattle.{def_written.specs.Numbers.vertices, remesh_laws.proofs.Asides.one_last, site_laws.proofs.Laws.graph_law}
 
 -- Kept certificates have the network of their layout.
@@ -57,11 +56,7 @@ told_pair bytes other pair =
 
 -- No line of a certificate begins as a head line of any command.
 mark_test : IsHeadTest begins_mark
-mark_test = record {
-  head = λ settings auto. refl;
-  cert = elim [ Length n ↦ refl | _ ↦ refl ];
-  plain = plain_begins (codes "quadq 1 ");
-}
+mark_test = search rules
 
 pub accepts_text_law : AcceptsTextLaw
 accepts_text_law settings auto old text range ends wrote =

@@ -1,10 +1,9 @@
 -- The lines of a text around its mesh: whole lines, and those that begin with `#` are passed over.
-use Rattle.std.proofs.Common.{◌≡◌, ◌<◌, ◌≤◌, ◌^◌, ℕ, zero, suc, ℤ, pos, negsuc, Bool, true, false, List, [], ◌∷◌, ◌++◌}
-use Rattle.std.proofs.Common.{codes, length, map, get_or, refl, sym, ◌∙◌, ap, subst, arith, length-append, inl, inr}
-use Rattle.std.proofs.lemmas.Bool.{and_parts, leb-true, cases_eq, cases_lt, false≢true}
+use Rattle.std.proofs.Common.{rules, ◌≡◌, ◌<◌, ◌≤◌, ◌^◌, ℕ, zero, suc, ℤ, pos, Bool, true, false, List, [], ◌∷◌, ◌++◌}
+use Rattle.std.proofs.Common.{codes, length, map, get_or, refl, sym, ◌∙◌, ap, subst, arith, length-append}
+use Rattle.{std.proofs.lemmas.Bool.and_parts, qm_obj.proofs.TailLemmas.passes_at, qm_obj.proofs.SoupLemmas.are_below}
 use Rattle.std.proofs.{lemmas.Fmt.length-decimal-le, lemmas.List.append-nil, lemmas.List.Folds.flat_map-map}
-use Rattle.std.specs.Prelude.{◌&&◌, ◌==◌, ◌+◌, ◌-◌, if◌then◌else◌, decimal, slice_index, unsigned_abs}
-use Rattle.std.specs.{Fmt.signed_decimal, List.before_first, List.flat_map, List.list_all}
+use Rattle.std.specs.{Prelude.◌+◌, Prelude.◌-◌, Prelude.decimal, List.flat_map, List.list_all}
 use Rattle.def_certtext.specs.Settings.{floor_text, scale_text, weight_text, AreInRange, IsFloor}
 use Rattle.def_certtext.specs.declared.CertLine.TheVariants.{Floor, Length, Set, Vertex, Rise as RiseLine}
 use Rattle.def_certtext.specs.{CertLines.dual_line, CertLines.line_text, CertLines.text_of, HeadLine.head_line}
@@ -14,15 +13,12 @@ use Rattle.def_flow.specs.declared.net.Weight.TheVariants.{Plain, Length as ByLe
 use Rattle.def_flow.specs.{declared.net.Settings.Settings, declared.net.Weight.Weight}
 use Rattle.def_io.specs.{Bytes.Bytes, Bytes.Lines, Lines.lines_of}
 use Rattle.def_text.specs.{Canonical.canonical_text, FaceSet.FaceSet, Laws.is_position, Laws.is_quad}
-use Rattle.def_text.specs.{Laws.IsWritableSoup, Logical.continues, Logical.is_hash, Logical.with_space}
-use Rattle.def_text.specs.{Reading.begins_with, Words.words}
+use Rattle.def_text.specs.{Laws.IsWritableSoup, Logical.continues}
 use Rattle.def_remesh.specs.{ReadAgain.ends_line, Refined.refine_head}
 use Rattle.qm_certtext.proofs.Texts.{both_inside, lines_inside, number_inside, settings_inside, settings_line}
-use Rattle.qm_certtext.proofs.Counts.{small_parts, floor_low, rise_low}
 use Rattle.qm_obj.proofs.LawSoup.{canonical_lines, each_both, each_map, face_line, face_line_is, position_line}
 use Rattle.qm_obj.proofs.LawSoup.{position_line_is, text_lines}
 use Rattle.qm_obj.proofs.LawText.{is_inside, lines_back, lines_split, no_continuation, IsLine}
-use Rattle.qm_obj.proofs.{TailLemmas.passes_at, SoupLemmas.are_below}
 use Rattle.remesh_laws.specs.Asides.{IsAside, IsPassedOver}
 
 -- Lines that are passed over.
@@ -46,8 +42,7 @@ ends_last (byte ∷ next ∷ line) = ends_last (next ∷ line)
 
 pub ends_lines : (lines : Lines) → ends_line (flat_map (λ l. l ++ 10 ∷ []) lines) ≡ true
 ends_lines [] = refl
-ends_lines (line ∷ lines) = ends_append (line ++ 10 ∷ []) (flat_map (λ l. l ++ 10 ∷ []) lines) (ends_last line)
-    (ends_lines lines)
+ends_lines (line ∷ lines) = search (rules, ends_append, ends_last, ends_lines lines)
 
 -- ---- The lines of the mesh.
 
@@ -71,25 +66,9 @@ module _ (soup : FaceSet) (is : IsWritableSoup soup) where
 
 -- ---- Lines that begin with `#`.
 
-off_right : (t : Bool) → (t && false) ≡ false
-off_right true = refl
-off_right false = refl
-
 pub hash_passed : (line : Bytes) → get_or line 0 0 ≡ 35 → length line ≤ 65536 → IsPassedOver line
 hash_passed [] begins short = absurd (omega (arith, begins))
-hash_passed (byte ∷ line) begins short = rw begins (record {
-  short = short;
-  whole = whole;
-  no_vertex = by_test 118 (continues (35 ∷ line)) whole;
-  no_face = by_test 102 (continues (35 ∷ line)) whole;
-})
-  where
-    whole : continues (35 ∷ line) ≡ false
-    whole = off_right (slice_index (35 ∷ line) (length (35 ∷ line) - 1) == 92)
-
-    by_test : (letter : ℕ) (t : Bool) → t ≡ false
-        → begins_with letter (words (if t then with_space (35 ∷ line) else before_first is_hash (35 ∷ line))) ≡ false
-    by_test letter t off = rw off refl
+hash_passed (byte ∷ line) begins short = search rules
 
 -- A text of one line that ends no line has that line alone.
 pub one_line : (line : Bytes) → list_all is_inside line ≡ true → lines_of (line ++ 10 ∷ []) ≡ line ∷ []
@@ -102,12 +81,7 @@ one_line line inside = ap lines_of (sym (append-nil (line ++ 10 ∷ []))) ∙ li
 -- A text of one such line.
 pub line_aside : (line : Bytes) → get_or line 0 0 ≡ 35 → list_all is_inside line ≡ true → length line ≤ 65536
     → IsAside (line ++ 10 ∷ [])
-line_aside line begins inside short =
-    record { ended = ends_last line; each = subst ArePassed (sym (one_line line inside)) one }
-  where
-    one : ArePassed (line ∷ [])
-    one zero l = hash_passed line begins short
-    one (suc k) l = absurd (omega (arith, l))
+line_aside line begins inside short = search (rules, ends_last, one_line, hash_passed)
 
 -- Nothing is a text of no such lines.
 pub none_aside : IsAside []
@@ -117,42 +91,21 @@ none_aside = record { ended = refl; each = λ k l. absurd (omega (arith, l)) }
 pub number_short : (n : ℕ) → n < 2 ^ 64 → length (decimal n) ≤ 20
 number_short n low = length-decimal-le 20 n (omega arith) (omega arith) (omega (arith, low))
 
-signed_short : (z : ℤ) → unsigned_abs z < 10 ^ 18 → length (signed_decimal z) ≤ 21
-signed_short (pos n) low = omega (arith, number_short n (omega (arith, low)))
-signed_short (negsuc n) low = omega (arith, number_short (suc n) (omega (arith, low)))
-
 -- The lines of a certificate are passed over.
 dual_short : (letter : ℕ) (z : ℤ) (up : ℕ) → is_small z up ≡ true → length (dual_line letter z up) ≤ 65536
-dual_short letter z up may =
-    let parts = small_parts z up may in
-    omega (
-      arith,
-      length-append (signed_decimal z) (32 ∷ decimal up),
-      signed_short z parts.0,
-      number_short up (omega (arith, parts.1)),
-    )
+dual_short letter z up may = search (rules, length-append, number_short)
 
 cert_passed : (rising : Rising) (line : CertLine) → may_stand rising line ≡ true → IsPassedOver (line_text line)
-cert_passed rising (Length n) may =
-    hash_passed (line_text (Length n)) refl (omega (arith, number_short n (omega (arith, leb-true n (10 ^ 12) may))))
+cert_passed rising (Length n) may = search (rules, number_short)
 cert_passed rising (Vertex z up) may = hash_passed (line_text (Vertex z up)) refl (dual_short 121 z up may)
 cert_passed rising (Set z up) may = hash_passed (line_text (Set z up)) refl (dual_short 115 z up may)
-cert_passed rising (Floor floor) may = hash_passed (line_text (Floor floor)) refl
-    (omega (arith, number_short floor (omega (arith, floor_low rising floor may))))
-cert_passed rising (RiseLine rise) may =
-    let low = rise_low rising rise may in
-    hash_passed (line_text (RiseLine rise)) refl (omega (
-      arith,
-      length-append (decimal (rise.arc + 1)) (32 ∷ decimal rise.floor),
-      number_short (rise.arc + 1) (omega (arith, low.0)),
-      number_short rise.floor (omega (arith, low.1)),
-    ))
+cert_passed rising (Floor floor) may = search (rules, number_short)
+cert_passed rising (RiseLine rise) may = search (rules, length-append, number_short)
 
 certs_passed : (rising : Rising) (said : List CertLine) → list_all (may_stand rising) said ≡ true → (k : ℕ) → k
     < length (map line_text said) → IsPassedOver (get_or (map line_text said) k [])
 certs_passed rising [] all k low = absurd (omega (arith, low))
-certs_passed rising (line ∷ said) all zero low =
-    cert_passed rising line (and_parts (may_stand rising line) (list_all (may_stand rising) said) all).0
+certs_passed rising (line ∷ said) all zero low = search (rules, cert_passed)
 certs_passed rising (line ∷ said) all (suc k) low = certs_passed rising said
     (and_parts (may_stand rising line) (list_all (may_stand rising) said) all).1 k (omega (arith, low))
 
@@ -196,8 +149,7 @@ settings_aside front settings auto begins inside few range =
 
 pub head_aside : (settings : Settings) (auto : Bool) → AreInRange settings auto
     → IsAside (head_line settings auto ++ 10 ∷ [])
-head_aside settings auto range = settings_aside (codes "#quadq 1 remesh scale ") settings auto refl refl (omega arith)
-    range
+head_aside settings auto range = search (rules, settings_aside)
 
 pub refine_aside : (by : ℕ) → by < 2 ^ 64 → IsAside (refine_head by)
 refine_aside by low =
@@ -211,10 +163,4 @@ refine_aside by low =
 -- One line is the last that begins in some way.
 pub one_last : (begins_so : Bytes → Bool) (lines : Lines) (i k : ℕ) → IsLastLine begins_so lines i
     → IsLastLine begins_so lines k → i ≡ k
-one_last begins_so lines i k one two = elim (cases_eq i k) [
-  | inl e ↦ e
-  | inr ne ↦ elim (cases_lt i k) [
-    | inl lt ↦ absurd (false≢true (sym (one.last k lt two.there) ∙ two.begins))
-    | inr ge ↦ absurd (false≢true (sym (two.last i (omega (arith, ge, ne)) one.there) ∙ one.begins))
-  ]
-]
+one_last begins_so lines i k one two = search rules

@@ -1,8 +1,8 @@
 -- A layout that is remeshed whatever least lists are kept is refused for no certificate.
-use Rattle.std.proofs.Common.{ℕ, ◌∙◌, arith, ◌≡◌, ◌≤◌, ◌<◌, inl, inr, List, length, ap, subst, refl}
-use Rattle.std.proofs.{lemmas.Bool.cases_lt, lemmas.Int.ints, lemmas.List.get_or_past}
+use Rattle.std.proofs.Common.{rules, ℕ, arith, ◌≡◌, ◌≤◌, ◌<◌, List, length, subst, refl}
+use Rattle.std.proofs.{lemmas.Int.ints, lemmas.List.get_or_past}
 use Rattle.std.specs.Prelude.{IsErrOf, Result, Err}
-use Rattle.def_certtext.specs.CertLines.{certificates_of, lists_of, Lists, alone, raised, used, Certificates}
+use Rattle.def_certtext.specs.CertLines.{lists_of, Lists, alone, raised, used, Certificates}
 use Rattle.def_certtext.specs.{declared.certs.Rising.Rising, declared.certs.Rising.TheVariants.Third}
 use Rattle.def_flow.specs.{declared.cert.Cert.Cert, declared.net.Settings.Settings, Accepted.certificate}
 use Rattle.def_flow.specs.{Descent.IsSolution, Network.arc_at, Network.Network, declared.limits.TheConstants.MAX_FLOOR}
@@ -18,34 +18,21 @@ use Rattle.def_remesh.specs.{NewPoints.lengths_in, Placings.IsMeshLayout, Stitch
 use Rattle.def_remesh.specs.{Stitched.IsUnstitched, Stitched.KeepsShapes, declared.fail.StitchFail.StitchFail}
 use Rattle.def_remesh.specs.{declared.tables.Tables.Tables}
 use Rattle.remesh_laws.proofs.ReadAgain.{kept_by, raised_net, certified_lengths, task_read}
-use Rattle.remesh_laws.proofs.Solved.{certified}
+use Rattle.remesh_laws.{proofs.Solved.certified, specs.Keeps.IsNumbered, specs.Keeps.ShowsTask}
 use Rattle.def_written.specs.{Edges.IsFirstDoubled, NewFaces.new_faces, Shape.KeepsShape}
-use Rattle.remesh_laws.specs.Keeps.{IsNumbered, ShowsTask}
-use Rattle.{def_mesh.specs.Faces.Faces, def_text.specs.FaceSet.FaceSet, def_layoutnet.specs.Floors.HasFloors}
+use Rattle.{def_text.specs.FaceSet.FaceSet, def_layoutnet.specs.Floors.HasFloors}
 use Rattle.def_remesh.specs.declared.fail.StitchFail.TheVariants as fails
 
 -- Certified lengths are a least list.
 least_for : {wish : Wish} (layout : Layout) (settings : Settings) (floors : Lengths) (cert : Lists)
     → IsCertified wish layout settings floors cert → IsLeastFor wish layout settings floors cert.x
-least_for layout settings floors cert is =
-    record {
-      net = is.lengths.net;
-      of_layout = is.lengths.of_layout;
-      count = is.lengths.count ∙ is.lengths.of_layout.long;
-      least = is.lengths.least;
-    }
+least_for layout settings floors cert is = search rules
 
 -- So the lengths that are used give too many faces only where those of some least lists do.
 pub fits_not_fine : (wish : Wish) (layout : Layout) (settings : Settings) (rising : Rising) (faces : ℕ) (kept : Kept)
     → IsRemeshable wish layout settings rising → IsFineBy wish layout settings rising faces kept → ⊥
 fits_not_fine wish layout settings rising faces (Multiple by) fits fine = absurd fine
-fits_not_fine wish layout settings rising faces (Least certs) fits fine = absurd (omega (
-  arith,
-  fine.1.0,
-  fine.1.1,
-  fits.coarse (certificates_of certs)
-      (kept_by layout (given_floors settings) rising (certificates_of certs) (least_for layout settings) fine.0),
-))
+fits_not_fine wish layout settings rising faces (Least certs) fits fine = search (rules, kept_by)
 
 pub fits_not_doubled : (wish : Wish) (layout : Layout) (settings : Settings) (rising : Rising) (u v : ℕ) (cert : Cert)
     → IsRemeshable wish layout settings rising → IsDoubledBy wish layout settings rising u v cert → ⊥
@@ -58,8 +45,7 @@ fits_not_doubled wish layout settings rising u v cert fits by = fits.undoubled b
 pub solved : {wish : Wish} {floors : Lengths} (layout : Layout) (settings : Settings) (net : Network) (cert : Cert)
     → IsNetWith wish layout settings floors net → IsSolution net (certificate cert)
     → IsCertified wish layout settings floors (lists_of cert)
-solved layout settings net cert for is = certified _ layout settings _ net (lists_of cert) for.mesh for.is for.bounds
-    for.untangled is
+solved layout settings net cert for is = search (rules, certified)
 
 -- So its lengths are lengths of the layout, also under another name.
 pub are_lengths : {wish : Wish} {floors : Lengths} (layout : Layout) (settings : Settings) (net : Network) (cert : Cert)
@@ -72,8 +58,7 @@ are_lengths layout settings net cert xs for is same = rw same
 pub third_net : {wish : Wish} {floors : Lengths} (layout : Layout) (settings : Settings) (net other : Network)
     → IsNetWith wish layout settings floors net → HasFloors net (λ a. 3) other
     → IsNetWith wish layout settings (λ a. 3) other
-third_net layout settings net other =
-    raised_net layout settings (λ a. 3) net other (λ arc. omega arith) (λ arc low. omega arith)
+third_net layout settings net other = search (rules, raised_net)
 
 -- Kept certificates, with the numbers of the new mesh at the lengths that are used.
 pub keeps : {wish : Wish} (layout : Layout) (settings : Settings) (rising : Rising) (certificates : Certificates) (xs :
@@ -98,22 +83,17 @@ keeps_first layout settings rising cert xs tables = keeps layout settings rising
 pub keeps_third : {wish : Wish} (layout : Layout) (settings : Settings) (first third : Cert) (xs : List ℕ) (tables :
     Tables) → xs ≡ third.x.items → AreKept wish layout settings Third (raised (lists_of first) (lists_of third))
     → IsNumbered layout xs tables → IsKept wish layout settings Third (raised (lists_of first) (lists_of third)) tables
-keeps_third layout settings first third xs tables =
-    keeps layout settings Third (raised (lists_of first) (lists_of third)) xs tables
+keeps_third layout settings first third xs tables = search (rules, keeps)
 
 -- A refusal of lengths, of this kind, is one of the same lengths under another name.
 pub too_fine : (layout : Layout) (xs ys : List ℕ) (fail : StitchFail) (faces : ℕ) → xs ≡ ys → fail ≡ fails.TooFine faces
     → IsUnstitched (gluing_of layout) (lengths_in xs) fail → AreTooFine layout ys faces
-too_fine layout xs ys fail faces same is refused =
-    let told : IsUnstitched (gluing_of layout) (lengths_in xs) (fails.TooFine faces) =
-    subst (IsUnstitched (gluing_of layout) (lengths_in xs)) is refused in
-    rw (← same) (told.0, omega (arith, told.0, told.1))
+too_fine layout xs ys fail faces same is refused = search rules
 
 pub doubled_first : (layout : Layout) (xs ys : List ℕ) (fail : StitchFail) (u v : ℕ) → xs ≡ ys → fail
     ≡ fails.Doubled u v → IsUnstitched (gluing_of layout) (lengths_in xs) fail → AreCoarse layout ys
     × IsFirstDoubled (gluing_of layout) (lengths_in ys) u v
-doubled_first layout xs ys fail u v same is refused = rw (← same)
-    (subst (IsUnstitched (gluing_of layout) (lengths_in xs)) is refused)
+doubled_first layout xs ys fail u v same is refused = search rules
 
 pub doubled_some : (layout : Layout) (ys : List ℕ) (u v : ℕ) → IsFirstDoubled (gluing_of layout) (lengths_in ys) u v
     → AreDoubled layout ys
@@ -122,11 +102,7 @@ doubled_some layout ys u v first = (u, v, first.doubled)
 -- No length is too great, also beyond the last arc.
 pub bounded : (net : Network) (cert : Cert) (xs : List ℕ) → IsSolution net (certificate cert) → xs ≡ cert.x.items
     → (arc : ℕ) → lengths_in xs arc ≤ MAX_LENGTH
-bounded net cert xs is same arc = rw same
-    (elim (cases_lt arc (length cert.x.items)) [
-      | inl low ↦ is.lengths.small arc low
-      | inr high ↦ omega (arith, get_or_past cert.x.items arc 0 high)
-    ])
+bounded net cert xs is same arc = search (rules, get_or_past)
 
 -- Lengths for the greatest floors are long.
 pub long_lengths : {wish : Wish} {floors : Lengths} (layout : Layout) (settings : Settings) (net : Network) (cert :
@@ -140,36 +116,26 @@ long_lengths layout settings net cert for is high a low =
 pub none_doubled : {T : Type 0} (layout : Layout) (xs ys : List ℕ) (result : Result T StitchFail) (fail : StitchFail) (u
     v : ℕ) → xs ≡ ys → AreLong layout (lengths_in ys) → (AreSafe layout (lengths_in xs) → (a b : ℕ) → ¬ IsErrOf result
     (fails.Doubled a b)) → result ≡ Err fail → fail ≡ fails.Doubled u v → ⊥
-none_doubled layout xs ys result fail u v same long safe told doubled =
-    safe (inl (rw same long)) u v (told ∙ ap Err doubled)
+none_doubled layout xs ys result fail u v same long safe told doubled = search rules
 
 -- So lengths that double one are for a lower floor.
 pub low_floor : {T : Type 0} {wish : Wish} (layout : Layout) (settings : Settings) (cert : Cert) (xs : List ℕ) (result :
     Result T StitchFail) (fail : StitchFail) (u v : ℕ) → xs ≡ cert.x.items → IsCertified wish layout settings
     (given_floors settings) (lists_of cert) → (AreSafe layout (lengths_in xs) → (a b : ℕ) → ¬ IsErrOf result
     (fails.Doubled a b)) → result ≡ Err fail → fail ≡ fails.Doubled u v → settings.floor < MAX_FLOOR
-low_floor layout settings cert xs result fail u v same is safe told doubled =
-    elim (cases_lt settings.floor MAX_FLOOR) [
-      | inl low ↦ low
-      | inr high ↦ absurd (none_doubled layout xs cert.x.items result fail u v same (λ a low.
-          let above = is.lengths.least.admissible.high a (omega (arith, low, is.lengths.of_layout.long)) in
-          omega (arith, ints, above, high, is.lengths.of_layout.floors a low)) safe told doubled)
-    ]
+low_floor layout settings cert xs result fail u v same is safe told doubled = search rules
 
 -- The new mesh has the shape of the one that the layout lies in.
 pub kept_shape : (soup : FaceSet) (layout : Layout) (xs : List ℕ) → IsMeshLayout soup.faces layout
     → KeepsShapes layout (lengths_in xs)
     → KeepsShape soup.faces (new_faces (gluing_of layout) (lengths_in xs)) (gluing_of layout).nodes (vertex_at layout)
-kept_shape soup layout xs lies shapes = subst (λ (fs : Faces). KeepsShape fs
-    (new_faces (gluing_of layout) (lengths_in xs)) (gluing_of layout).nodes (vertex_at layout)) lies.1
-    (shapes lies.0.faces lies.0.marks lies.0.mesh lies.0.quads lies.0.cut lies.0.laid)
+kept_shape soup layout xs lies shapes = search rules
 
 -- Accepted certificates have least lengths.
 pub least_of : (wish : Wish) (layout : Layout) (settings : Settings) (rising : Rising) (certificates : Certificates)
     → AreKept wish layout settings rising certificates
     → AreKeptBy (HasLeastLengths wish layout settings) layout (given_floors settings) rising certificates
-least_of wish layout settings rising certificates =
-    kept_by layout (given_floors settings) rising certificates (λ floors cert is. is.lengths)
+least_of wish layout settings rising certificates = search (rules, kept_by)
 
 -- What is kept of a layout that a task's cut gives finishes the task, and shows it.
 pub shown : (task : Task) (soup : FaceSet) (layout : Layout) (certificates : Certificates) (tables : Tables)

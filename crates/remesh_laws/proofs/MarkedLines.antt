@@ -1,28 +1,22 @@
 -- The lines of marked arcs: whole lines, of which none begins with `#`.
-use Rattle.std.proofs.Common.{◌≡◌, ◌+◌, ◌/◌, ◌%◌, ◌<◌, ◌≤◌, ℕ, zero, suc, Bool, true, false, List, [], ◌∷◌, ◌++◌}
-use Rattle.std.proofs.Common.{length, map, filter, get_or, ◌∙◌, ap, refl, arith, inl, inr, sym, ◌↔◌, drop}
-use Rattle.std.proofs.Common.{slice_index_or}
-use Rattle.std.proofs.lemmas.Bool.{and_from, cases_Bool, cond-true, cond_both, lt-ltb}
-use Rattle.std.proofs.{lemmas.Bool.Decides.nat_tests, lemmas.List.Folds.flat_map-map, lemmas.List.Folds.list_all-append}
+use Rattle.std.proofs.Common.{rules, ◌≡◌, ◌+◌, ◌/◌, ◌%◌, ◌<◌, ℕ, zero, suc, Bool, true, false, List, [], ◌∷◌, ◌++◌}
+use Rattle.std.proofs.Common.{length, map, filter, get_or, ◌∙◌, ap, refl, arith, ◌↔◌, drop, slice_index_or}
+use Rattle.std.proofs.lemmas.Bool.{and_from, cond_both}
+use Rattle.std.proofs.{lemmas.List.Folds.flat_map-map, lemmas.List.Folds.list_all-append}
 use Rattle.std.specs.{Fmt.digit_glyph, Fmt.digits, Fmt.digits_onto, List.flat_map, List.list_all, List.range_with_len}
-use Rattle.std.specs.{Prelude.◌==◌, Prelude.decimal, Prelude.nat_lt}
+use Rattle.std.specs.{Prelude.◌==◌, Prelude.decimal}
 use Rattle.def_certtext.specs.{Reading.is_hash_line, Reading.Made, Reading.TellHow, Laws.TellsOnly}
 use Rattle.def_io.specs.{Bytes.Bytes, Bytes.Lines, Lines.lines_of, Lines.tail_of}
 use Rattle.def_layout.specs.{Layouts.gluing_of, Layouts.Layout, Lengths.Lengths}
 use Rattle.def_marks.specs.MarkedText.{arc_chain, arc_text, chain_text, is_marked_arc, marked_text}
 use Rattle.def_remesh.specs.{ReadAgain.ends_line, TextLaws.made_by, TextLaws.PairLaw}
 use Rattle.qm_obj.proofs.LawText.{is_inside, is_tame, lines_back, tame_inside}
-use Rattle.remesh_laws.proofs.{Asides.ends_lines, Tails.first-drop, Tails.lines-tail, Tails.tail_behind}
-use Rattle.remesh_laws.proofs.{ReadAgain.told_law}
-use Rattle.remesh_laws.specs.Asides.{IsSilent}
+use Rattle.remesh_laws.{proofs.Asides.ends_lines, proofs.Tails.first-drop, proofs.Tails.lines-tail}
+use Rattle.remesh_laws.{proofs.Tails.tail_behind, proofs.ReadAgain.told_law, specs.Asides.IsSilent}
 
 -- The digits of a number neither end nor cut a line.
-digit_tame : (b : ℕ) → 48 ≤ b → b ≤ 57 → is_tame b ≡ true
-digit_tame b low high = grind (arith, nat_tests)
-
 glyph_tame : (d : ℕ) → d < 10 → is_tame (digit_glyph false d) ≡ true
-glyph_tame d low = ap is_tame (cond-true (nat_lt d 10) (48 + d) (87 + d) (lt-ltb d 10 low))
-    ∙ digit_tame (48 + d) (omega arith) (omega (arith, low))
+glyph_tame d low = search rules
 
 digits_tame : (k n : ℕ) (behind : Bytes) → list_all is_tame behind ≡ true
     → list_all is_tame (digits_onto k 10 false n behind) ≡ true
@@ -62,10 +56,7 @@ module _ (marks : List Bool) (layout : Layout) (new : Lengths) where
   pub marked_is : (arcs : List ℕ) → flat_map (arc_text marks layout new) arcs
       ≡ flat_map chain_text (map (arc_chain (gluing_of layout) new) (filter (is_marked_arc marks layout) arcs))
   marked_is [] = refl
-  marked_is (arc ∷ arcs) = elim (cases_Bool (is_marked_arc marks layout arc)) [
-    | inl on ↦ rw on (ap (λ (t : Bytes). chain_text (arc_chain (gluing_of layout) new arc) ++ t) (marked_is arcs))
-    | inr off ↦ rw off (marked_is arcs)
-  ]
+  marked_is (arc ∷ arcs) = search (rules, marked_is arcs)
 
   -- The chains of all marked arcs.
   abbrev pub marked_chains : List (List ℕ)
@@ -73,8 +64,7 @@ module _ (marks : List Bool) (layout : Layout) (new : Lengths) where
       (filter (is_marked_arc marks layout) (range_with_len 0 (length layout.arcs)))
 
   chains_text : marked_text marks layout new ≡ flat_map (λ l. l ++ 10 ∷ []) (map chain_line marked_chains)
-  chains_text = marked_is (range_with_len 0 (length layout.arcs))
-      ∙ sym (flat_map-map (λ l. l ++ 10 ∷ []) chain_line marked_chains)
+  chains_text = search (rules, marked_is, flat_map-map)
 
   pub marked_lines : lines_of (marked_text marks layout new) ≡ map chain_line marked_chains
   marked_lines = ap lines_of chains_text ∙ lines_back (map chain_line marked_chains) (chains_inside marked_chains)
@@ -83,8 +73,7 @@ module _ (marks : List Bool) (layout : Layout) (new : Lengths) where
   marked_ended = ap ends_line chains_text ∙ ends_lines (map chain_line marked_chains)
 
   pub marked_silent : IsSilent (marked_text marks layout new)
-  marked_silent =
-      record { ended = marked_ended; plain = ap (filter is_hash_line) marked_lines ∙ chains_plain marked_chains }
+  marked_silent = search (rules, marked_ended, marked_lines, chains_plain)
 
 -- A text is a checked pair in one way: its lines from the head line on tell how the remesh was made, and no other way.
 

@@ -1,10 +1,9 @@
 -- Lines that a reader of meshes passes over, before and behind the lines of a mesh, change nothing that is read.
-use Rattle.std.proofs.Common.{◌≡◌, ◌<◌, ◌+◌, ℕ, zero, suc, Bool, true, false, cond, not, if◌then◌else◌, List, [], ◌∷◌}
-use Rattle.std.proofs.Common.{◌++◌, length, take, get_or, Ok, refl, sym, ◌∙◌, ap, ap₂, arith, ltb}
-use Rattle.std.proofs.{lemmas.Bool.le-ltb, lemmas.List.append-nil, lemmas.List.Concat.flat_map-append}
-use Rattle.std.proofs.{lemmas.List.Sums.sum_by_push}
+use Rattle.std.proofs.Common.{rules, ◌≡◌, ◌<◌, ◌+◌, ℕ, zero, suc, Bool, true, false, cond, not, if◌then◌else◌, List, []}
+use Rattle.std.proofs.Common.{◌∷◌, ◌++◌, length, take, get_or, Ok, refl, sym, ◌∙◌, ap, ap₂, arith, ltb}
+use Rattle.std.proofs.{lemmas.List.append-nil, lemmas.List.Concat.flat_map-append, lemmas.List.Sums.sum_by_push}
 use Rattle.def_text.specs.Logical.{continues, groups_of, joined, logical, logical_lines, numbered_groups, part_of}
-use Rattle.def_text.specs.Logical.{with_line, Logical}
+use Rattle.def_text.specs.Logical.{Logical}
 use Rattle.def_text.specs.Reading.{begins_with, is_face_line, is_letter, is_position_count, is_vertex_line, reading}
 use Rattle.def_text.specs.Reading.{words_reading}
 use Rattle.def_text.specs.Text.{face_in, face_set, faces, first_refusal, late_in, position_in, positions, readings}
@@ -14,7 +13,6 @@ use Rattle.def_text.specs.declared.reading.Reading.TheVariants.{Face as Said, Pa
 use Rattle.def_text.specs.{Corner.is_corner_word, Corner.is_out, Corner.used_index, Decimal.is_decimal, Decimal.is_far}
 use Rattle.def_text.specs.{Decimal.rounded, FaceSet.FaceSet, Types.Position as Place, Types.Words, Words.words}
 use Rattle.def_text.specs.{declared.reading.Reading.Reading, declared.refusal.ObjFail.ObjFail}
-use Rattle.def_text.specs.{declared.refusal.ObjFail.TheVariants.Range}
 use Rattle.{std.specs.List.count_by, std.specs.List.flat_map, std.specs.List.list_all, std.specs.List.list_any}
 use Rattle.{std.specs.Prelude.nat_le, std.specs.Prelude.◌&&◌, std.specs.Prelude.◌==◌, def_io.specs.Bytes.Bytes}
 use Rattle.{def_io.specs.Bytes.Lines, def_mesh.specs.Faces.Face, qm_obj.proofs.TailLemmas.parts_none}
@@ -36,16 +34,7 @@ alike_self : (r : Reading) → IsAlike r r
 alike_self r = record { position = refl; face = refl; refusal = λ none. none; late = λ v none. none }
 
 faced : (m n : ℕ) (corners : Face) → IsAlike (Said m corners) (Said n corners)
-faced m n corners = record {
-  position = refl;
-  face = refl;
-  refusal = λ none. none;
-  late = λ v. by_test (list_any (λ corner. ltb v corner) corners);
-}
-  where
-    by_test : (t : Bool) → (if t then Range m ∷ [] else []) ≡ [] → (if t then Range n ∷ [] else []) ≡ []
-    by_test true none = cc none
-    by_test false none = refl
+faced m n corners = search rules
 
 alike_if : (t : Bool) {a b c d : Reading} → IsAlike a b → IsAlike c d
     → IsAlike (if t then a else c) (if t then b else d)
@@ -83,12 +72,7 @@ none_more p before line off = omega (arith, one_more p before line, ap (λ (t : 
 
 more_counts : (before after : List Logical) (m n : ℕ) (group : Lines) → SameCounts before after
     → SameCounts (before ++ logical m group ∷ []) (after ++ logical n group ∷ [])
-more_counts before after m n group same =
-    let a = one_more is_vertex_line before (logical m group) in
-    let b = one_more is_vertex_line after (logical n group) in
-    let c = one_more is_face_line before (logical m group) in
-    let d = one_more is_face_line after (logical n group) in
-    record { vertices = omega (arith, same.vertices); faces = omega (arith, same.faces) }
+more_counts before after m n group same = search (rules, one_more)
 
 record AreAlike (said other : List Reading) : Type 0 where
   positions : flat_map position_in other ≡ flat_map position_in said
@@ -99,9 +83,7 @@ record AreAlike (said other : List Reading) : Type 0 where
 both_none : {X : Type 0} (f : Reading → List X) (said other : Reading) (rest others : List Reading)
     → (f said ≡ [] → f other ≡ [])
     → (flat_map f rest ≡ [] → flat_map f others ≡ []) → flat_map f (said ∷ rest) ≡ [] → flat_map f (other ∷ others) ≡ []
-both_none f said other rest others first more none =
-    let parts = parts_none (f said) (flat_map f rest) none in
-    ap₂ ◌++◌ (first parts.0) (more parts.1)
+both_none f said other rest others first more none = search (rules, parts_none)
 
 alike : (before after : List Logical) (m n : ℕ) (groups : List Lines) → SameCounts before after
     → AreAlike (readings before (numbered_groups m groups)) (readings after (numbered_groups n groups))
@@ -143,11 +125,7 @@ alike_soup said other soup are is =
 -- A line to which none is joined is a logical line.
 one_line : (n : ℕ) (line : Bytes) (lines : Lines) → continues line ≡ false
     → logical_lines n (line ∷ lines) ≡ logical n (line ∷ []) ∷ logical_lines (n + 1) lines
-one_line n line lines stays = ap (numbered_groups n) (alone (groups_of lines))
-  where
-    alone : (groups : List Lines) → with_line line groups ≡ (line ∷ []) ∷ groups
-    alone [] = refl
-    alone (group ∷ groups) = rw stays refl
+one_line n line lines stays = search rules
 
 module _ (line : Bytes) (is : IsPassedOver line) (n : ℕ) where
   text_is : joined (line ∷ []) ≡ part_of line
@@ -160,13 +138,7 @@ module _ (line : Bytes) (is : IsPassedOver line) (n : ℕ) where
   no_face_line = ap (λ (t : Bytes). begins_with 102 (words t)) text_is ∙ is.no_face
 
   pub is_passed : (before : List Logical) → said_by before (logical n (line ∷ [])) ≡ Passed
-  is_passed before = rw (ap (λ (l : Bytes). ltb MAX_LINE (length l)) (append-nil line) ∙ le-ltb _ _ is.short)
-      (by_words (words (joined (line ∷ []))) no_vertex_line no_face_line)
-    where
-      by_words : (ws : Words) → begins_with 118 ws ≡ false → begins_with 102 ws ≡ false
-          → words_reading n (count_by is_vertex_line before) (count_by is_face_line before) ws ≡ Passed
-      by_words [] a b = refl
-      by_words (w ∷ ws) a b = rw (a, b) refl
+  is_passed before = search rules
 
 -- In front: a soup stays what it is.
 module _ (lines : Lines) (soup : FaceSet) (said : text_soup 1 lines ≡ Ok soup) where
@@ -202,14 +174,7 @@ flat_passes f none k said = flat_map-append f said (passes k) ∙ (ap (λ (xs : 
     all (suc k) = ap₂ ◌++◌ none (all k)
 
 soup_passes : (k : ℕ) (said : List Reading) → soup_of (said ++ passes k) ≡ soup_of said
-soup_passes k said =
-    let p = flat_passes position_in refl k said in
-    let f = flat_passes face_in refl k said in
-    let r = flat_passes refusal_in refl k said in
-    let l : flat_map (late_in (length (positions (said ++ passes k)))) (said ++ passes k) ≡ flat_map
-    (late_in (length (positions said))) said = flat_passes (late_in (length (positions (said ++ passes k)))) refl k said
-    ∙ ap (λ (ps : List Place). flat_map (late_in (length ps)) said) p in
-    λ i. first_refusal (r i ++ l i) (face_set (p i) (f i))
+soup_passes k said = search (rules, flat_passes)
 
 all_passed : (behind : Lines) (n : ℕ) (before : List Logical) → ArePassed behind
     → readings before (logical_lines n behind) ≡ passes (length behind)
@@ -236,6 +201,4 @@ said_before (line ∷ lines) behind n before whole each =
 pub passed_over : (front lines behind : Lines) (soup : FaceSet) → ArePassed front
     → ((k : ℕ) → k < length lines → continues (get_or lines k []) ≡ false)
     → ArePassed behind → text_soup 1 lines ≡ Ok soup → text_soup 1 (front ++ (lines ++ behind)) ≡ Ok soup
-passed_over front lines behind soup fronts whole behinds said = behind_front (lines ++ behind) soup
-    (ap soup_of (said_before lines behind 1 [] whole behinds) ∙ (soup_passes (length behind)
-    (readings [] (logical_lines 1 lines)) ∙ said)) front 1 [] fronts (record { vertices = refl; faces = refl })
+passed_over front lines behind soup fronts whole behinds said = search (rules, behind_front, said_before, soup_passes)

@@ -1,7 +1,7 @@
 -- The soup of a new mesh can be written: its coordinates are in range, its faces are quads over few vertices, and
 -- within the limits of the reader it is one that a text can have.
-use Rattle.std.proofs.Common.{◌≡◌, ℕ, zero, suc, ◌-◌, ◌^◌, ◌<◌, ◌≤◌, Bool, true, not, List, [], ◌∷◌, Option, length}
-use Rattle.std.proofs.Common.{refl, sym, ◌∙◌, ap, arith, pos, negsuc, neg_ℤ, ℤ, ◌≤ℤ◌}
+use Rattle.std.proofs.Common.{rules, ◌≡◌, ℕ, zero, suc, ◌-◌, ◌^◌, ◌<◌, ◌≤◌, Bool, true, not, List, [], ◌∷◌, Option}
+use Rattle.std.proofs.Common.{length, refl, sym, ◌∙◌, ap, arith, pos, negsuc, neg_ℤ, ℤ, ◌≤ℤ◌}
 use Rattle.std.proofs.lemmas.Bool.{and_from, and_parts, le-ltb, lt-ltb, ltb-false, not-true}
 use Rattle.std.proofs.lemmas.List.FromFn.{get_or-range_with_len, length-range_with_len, length-map-range_with_len}
 use Rattle.std.proofs.{lemmas.Bool.Decides.Decides-eqb, lemmas.Int.ints, lemmas.List.Folds.list_all-map}
@@ -15,7 +15,7 @@ use Rattle.def_text.specs.{Types.Positions, declared.limits.TheConstants.MAX_MIC
 use Rattle.def_layout.specs.{Gluings.Gluing, Gluings.Way, Gluings.south, Gluings.east, Gluings.north, Gluings.west}
 use Rattle.def_layout.specs.{Lengths.Lengths, Lengths.high, Lengths.AreLengths, Arcs.long_at, FaceLayouts.IsCutLayout}
 use Rattle.def_layout.specs.{Layouts.Layout, Layouts.gluing_of, Surfaces.IsSurface}
-use Rattle.def_written.specs.NewFaces.{face_count, dart_start, new_face, new_faces, dart_of, cell_vertex}
+use Rattle.def_written.specs.NewFaces.{face_count, new_face, new_faces, cell_vertex}
 use Rattle.def_written.specs.{Numbers.vertices, Numbers.vertex_number, Laws.AreQuads}
 use Rattle.def_cut.specs.{FullCut.IsFullCut, Traced.traced_marks}
 use Rattle.def_remesh.specs.{NewPoints.old_vertex, NewPoints.point_at, NewSoup.coordinate, NewSoup.new_coordinate}
@@ -29,9 +29,7 @@ use Rattle.{def_layoutnet.specs.MeshLayouts.IsSomeLayout, site_laws.proofs.Laws.
 
 -- What holds at each number of a range passes.
 pub passes_range : (p : ℕ → Bool) (n : ℕ) → ((k : ℕ) → k < n → p k ≡ true) → list_all p (range_with_len 0 n) ≡ true
-passes_range p n each = list_all-from_AllPass p (range_with_len 0 n)
-    (λ k x l. let low : k < n = omega (arith, l, length-range_with_len 0 n) in
-    ap p (get_or-range_with_len 0 n k x low ∙ omega arith) ∙ each k low)
+passes_range p n each = search (rules, list_all-from_AllPass, length-range_with_len, get_or-range_with_len)
 
 -- What passes at each corner of a new mesh passes at all corners of its faces, which are quads.
 pub faces_pass : (l : Gluing) (x : Lengths) (p : ℕ → Bool) → ((f : ℕ) (w : Way) → f < face_count l x → p (cell_vertex l
@@ -41,14 +39,12 @@ faces_pass l x p each = list_all-map (λ face. list_all p face) (new_face l x) (
     (and_from _ _ (each f north low) (and_from _ _ (each f west low) refl))))
 
 pub quads_pass : (l : Gluing) (x : Lengths) → list_all is_quad (new_faces l x) ≡ true
-quads_pass l x = list_all-map is_quad (new_face l x) (range_with_len 0 (face_count l x))
-    ∙ passes_range _ (face_count l x) (λ f low. refl)
+quads_pass l x = search (rules, list_all-map, passes_range)
 
 -- Each corner is a new vertex.
 pub corner_there : (l : Gluing) (x : Lengths) → IsSurface l → AreLengths l x → (f : ℕ) (w : Way)
     → f < face_count l x → cell_vertex l x f w < vertices l x
-corner_there l x laid len f w low = number_low l x (dart_start l x (dart_of l x f w))
-    (from_is l x laid len (dart_of l x f w) (cell_is l x laid len f w low))
+corner_there l x laid len f w low = search (rules, number_low, from_is, cell_is)
 
 -- A number within the range is not far, and a number that is not far is within it.
 near : (z : ℤ) → neg_ℤ (pos MAX_MICRO) ≤ℤ z → z ≤ℤ pos MAX_MICRO → not (is_far z) ≡ true
@@ -86,20 +82,12 @@ quads_of (face ∷ faces) all (suc f) low = quads_of faces (and_parts _ _ all).1
 -- The layout of a full cut is the layout of a mesh.
 pub cut_layout : (soup : FaceSet) (marks : List Bool) (layout : Layout) → IsSolid soup → IsFullCut soup.faces marks
     → IsCutLayout soup.faces marks layout → IsSomeLayout layout
-cut_layout soup marks layout solid full cut = record {
-  faces = soup.faces;
-  mesh = solid.mesh;
-  quads = quads_of soup.faces solid.printable.quads;
-  marks = marks;
-  cut = full;
-  laid = cut;
-}
+cut_layout soup marks layout solid full cut = search (rules, quads_of)
 
 -- So is the one that a traced graph cuts.
 pub mesh_layout : (soup : FaceSet) (layout : Layout) → IsSolid soup
     → IsCutLayout soup.faces (traced_marks soup.faces) layout → IsSomeLayout layout
-mesh_layout soup layout solid cut =
-    cut_layout soup (traced_marks soup.faces) layout solid (graph_law soup.faces solid.mesh.manifold).1 cut
+mesh_layout soup layout solid cut = search (rules, cut_layout, graph_law)
 
 module _ (soup : FaceSet) (solid : IsSolid soup) (layout : Layout) (is : IsSomeLayout layout) (shares : Option (List ℕ))
     (x : Lengths) (len : AreLengths (gluing_of layout) x) (few : face_count (gluing_of layout) x ≤ MAX_NEW_FACES) where

@@ -1,6 +1,6 @@
 -- Rounds of certificates, and the networks and the floors behind them.
-use Rattle.std.proofs.Common.{◌≡◌, ℕ, suc, ◌<◌, ◌≤◌, ◌==◌, cond, List, [], ◌∷◌, ◌++◌, length, refl, ap, ◌∙◌, arith, ◌^◌}
-use Rattle.std.proofs.Common.{true, None, Ok, sym, subst, append_assoc, ◌↔◌, drop, filter}
+use Rattle.std.proofs.Common.{rules, ◌≡◌, ℕ, suc, ◌<◌, ◌≤◌, ◌==◌, List, [], ◌∷◌, ◌++◌, length, refl, ap, ◌∙◌, arith}
+use Rattle.std.proofs.Common.{◌^◌, true, None, Ok, sym, subst, append_assoc, ◌↔◌, drop, filter}
 use Rattle.std.proofs.{lemmas.Bool.cond_both, lemmas.Bool.and_from, lemmas.Bool.le-leb, lemmas.Bool.lt-ltb}
 use Rattle.std.proofs.{lemmas.Int.ints, lemmas.List.append-nil}
 use Rattle.def_certtext.specs.CertLines.{alone, lists_of, raised, risen, risen_by, used, Certificates, Lists, text_of}
@@ -13,13 +13,12 @@ use Rattle.def_flow.specs.{declared.net.Settings.Settings}
 use Rattle.def_layout.specs.{Layouts.Layout, Layouts.gluing_of, Layouts.vertex_at, Lengths.Lengths, Lengths.AreLengths}
 use Rattle.def_layout.specs.{Arcs.long_at}
 use Rattle.def_layoutnet.specs.{Floors.at_floor, Floors.floor_of, Floors.HasFloors, MeshLayouts.IsSomeLayout}
-use Rattle.def_remesh.specs.Remeshed.{AreKeptBy, IsDoublingBy, HasLeastLengths, finished_text, text_behind_head}
-use Rattle.def_remesh.specs.Remeshed.{AreCoarse}
+use Rattle.def_remesh.specs.Remeshed.{AreKeptBy, IsDoublingBy, HasLeastLengths, finished_text, AreCoarse}
 use Rattle.def_remesh.specs.{Keeping.IsNetWith, NewPoints.lengths_in, NewPoints.multiple_of, Rises.rise_at}
-use Rattle.def_remesh.specs.{Rises.risen_floors, Rises.AreNeeded, Tasks.old_lengths, Tasks.Wish, Tasks.given_floors}
-use Rattle.def_remesh.specs.{Tasks.remesh_task, Tasks.Task, NewSoup.new_soup, NewSoup.spaced_soup}
-use Rattle.def_remesh.specs.{ReadAgain.IsReadAgain, ReadAgain.ends_line, Refined.refine_head, Refined.refined_text}
-use Rattle.def_remesh.specs.{TextLaws.ReadAgainLaw, TextLaws.IsSolid, TextLaws.ToldLaw}
+use Rattle.def_remesh.specs.{Rises.risen_floors, Rises.AreNeeded, Tasks.Wish, Tasks.given_floors, Tasks.remesh_task}
+use Rattle.def_remesh.specs.{Tasks.Task, NewSoup.new_soup, NewSoup.spaced_soup, ReadAgain.IsReadAgain}
+use Rattle.def_remesh.specs.{ReadAgain.ends_line, Refined.refine_head, Refined.refined_text, TextLaws.ReadAgainLaw}
+use Rattle.def_remesh.specs.{TextLaws.IsSolid, TextLaws.ToldLaw}
 use Rattle.embedding_laws.proofs.Bounds.{laid_of, lengths_of, lies}
 use Rattle.qm_layoutnet.proofs.Floors.{floor_high, floored, floors_tangle, floors_within, risen_low}
 use Rattle.qm_layoutnet.proofs.{Built.opposite_law, Whole.lengths_few}
@@ -39,22 +38,13 @@ use Rattle.{std.specs.Prelude.slice_index, std.specs.List.list_all, written_laws
 -- ---- What is known of certificates.
 
 -- What follows for each certificate with its floors follows for all that are kept.
-pub doubling_by : {f g : Lengths → Lists → Type 0} {layout : Layout} (floors : Lengths) (cert : Lists)
-    → (f floors cert → g floors cert) → IsDoublingBy f layout floors cert → IsDoublingBy g layout floors cert
-doubling_by floors cert more is = record { fit = more is.fit; coarse = is.coarse; doubled = is.doubled }
-
 pub kept_by : {f g : Lengths → Lists → Type 0} (layout : Layout) (floors : Lengths) (rising : Rising)
     (certificates : Certificates) → ((floors : Lengths) (cert : Lists) → f floors cert → g floors cert)
     → AreKeptBy f layout floors rising certificates → AreKeptBy g layout floors rising certificates
 kept_by layout floors rising (alone cert) more kept = more floors cert kept
-kept_by layout floors rising (raised first cert) more kept =
-    (kept.0, doubling_by floors first (more floors first) kept.1, more (λ arc. MAX_FLOOR) cert kept.2)
-kept_by layout floors rising (risen first rises after) more kept = (
-  kept.0,
-  doubling_by floors first (more floors first) kept.1,
-  kept.2,
-  kept_by layout (risen_floors rises floors) rising after more kept.3,
-)
+kept_by layout floors rising (raised first cert) more kept = search rules
+kept_by layout floors rising (risen first rises after) more kept =
+    search (rules, kept_by layout (risen_floors rises floors) rising after more kept.3)
 
 -- ---- Rounds.
 
@@ -72,11 +62,8 @@ module _ (fits : Lengths → Lists → Type 0) (layout : Layout) where
       → IsDoublingBy fits layout (floors_behind rounds floors) (lists_of round.cert) → AreNeeded (gluing_of layout)
       (lengths_in round.cert.x.items) round.rises.items → AreLed fits layout (rounds ++ round ∷ []) floors
   led_more [] round floors led doubling needed = (doubling, needed, tt)
-  led_more (first ∷ rounds) round floors led doubling needed = (
-    led.0,
-    led.1,
-    led_more rounds round (risen_floors first.rises.items floors) led.2 doubling needed,
-  )
+  led_more (first ∷ rounds) round floors led doubling needed =
+      search (rules, led_more rounds round (risen_floors first.rises.items floors) led.2 doubling needed)
 
 pub behind_more : (rounds : List Round) (round : Round) (floors : Lengths)
     → floors_behind (rounds ++ round ∷ []) floors ≡ risen_floors round.rises.items (floors_behind rounds floors)
@@ -94,8 +81,7 @@ used_behind (round ∷ rounds) after = used_behind rounds after
 pub risen_same : (rises : List Rise) (floors others : Lengths) (arc : ℕ) → floors arc ≡ others arc
     → risen_floors rises floors arc ≡ risen_floors rises others arc
 risen_same [] floors others arc same = same
-risen_same (rise ∷ rises) floors others arc same =
-    ap (cond (arc == rise.arc) rise.floor) (risen_same rises floors others arc same)
+risen_same (rise ∷ rises) floors others arc same = search (rules, risen_same rises floors others arc same)
 
 -- Floors of at least 1 are so after floors rose to at least 1.
 risen_some : (rises : List Rise) (floors : Lengths) (arc : ℕ)
@@ -107,8 +93,7 @@ risen_some (rise ∷ rises) floors arc rose some = cond_both (arc == rise.arc) _
 -- So needed ones leave none at 0.
 pub needed_some : (layout : Layout) (xs : List ℕ) (rises : List Rise) (floors : Lengths) → AreNeeded (gluing_of layout)
     (lengths_in xs) rises → ((arc : ℕ) → 1 ≤ floors arc) → (arc : ℕ) → 1 ≤ risen_floors rises floors arc
-needed_some layout xs rises floors needed some arc =
-    risen_some rises floors arc (λ k low. omega (arith, (needed.each k low).short)) (some arc)
+needed_some layout xs rises floors needed some arc = search (rules, risen_some)
 
 -- ---- Networks.
 
@@ -116,14 +101,8 @@ needed_some layout xs rises floors needed some arc =
 pub raised_net : {wish : Wish} {floors : Lengths} (layout : Layout) (settings : Settings) (higher : Lengths) (net other
     : Network) → ((arc : ℕ) → 1 ≤ higher arc) → ((arc : ℕ) → arc < length net.arcs → higher arc ≤ MAX_FLOOR) → IsNetWith
     wish layout settings floors net → HasFloors net higher other → IsNetWith wish layout settings higher other
-raised_net {wish} {floors} layout settings higher net other some high for has = record {
-  mesh = for.mesh;
-  floor = some;
-  is = floored (gluing_of layout) (old_lengths layout) (wish layout) settings floors higher net other
-      (laid_of layout for.mesh) for.is has;
-  bounds = floors_within net higher other has for.bounds (λ k low. (some k, high k low));
-  untangled = omega (arith, for.untangled, floors_tangle net higher other has);
-}
+raised_net {wish} {floors} layout settings higher net other some high for has =
+    search (rules, floored, laid_of, floors_within, floors_tangle)
 
 -- The network with floors that rose by need.
 pub net_risen : {wish : Wish} {floors : Lengths} (layout : Layout) (settings : Settings) (xs : List ℕ) (rises : List
@@ -165,18 +144,15 @@ certified_lengths layout settings cert floor is =
 lengths_behind : (wish : Wish) (layout : Layout) (settings : Settings) (rising : Rising) (certificates : Certificates)
     (floors : Lengths) → ((arc : ℕ) → 1 ≤ floors arc) → AreKeptBy (HasLeastLengths wish layout settings) layout floors
     rising certificates → AreLengths (gluing_of layout) (lengths_in (used certificates).x)
-lengths_behind wish layout settings rising (alone cert) floors some kept =
-    certified_lengths layout settings cert some kept
-lengths_behind wish layout settings rising (raised first cert) floors some kept =
-    certified_lengths layout settings cert (λ arc. omega arith) kept.2
+lengths_behind wish layout settings rising (alone cert) floors some kept = search (rules, certified_lengths)
+lengths_behind wish layout settings rising (raised first cert) floors some kept = search (rules, certified_lengths)
 lengths_behind wish layout settings rising (risen first rises after) floors some kept = lengths_behind wish layout
     settings rising after (risen_floors rises floors) (needed_some layout first.x rises floors kept.2 some) kept.3
 
 pub used_lengths : (wish : Wish) (layout : Layout) (settings : Settings) (rising : Rising) (certificates : Certificates)
     → 1 ≤ settings.floor → AreKeptBy (HasLeastLengths wish layout settings) layout (given_floors settings) rising
     certificates → AreLengths (gluing_of layout) (lengths_in (used certificates).x)
-used_lengths wish layout settings rising certificates some kept =
-    lengths_behind wish layout settings rising certificates (given_floors settings) (λ arc. some) kept
+used_lengths wish layout settings rising certificates some kept = search (rules, lengths_behind)
 
 -- Kept certificates can be written.
 
@@ -200,8 +176,7 @@ pub kept_writable : (wish : Wish) (layout : Layout) (settings : Settings) (risin
     Certificates) (floors : Lengths) → IsSomeLayout layout → AreKeptBy (HasLeastLengths wish layout settings) layout
     floors rising certificates → AreWritable rising certificates
 kept_writable wish layout settings rising (alone cert) floors mesh kept = kept.writable
-kept_writable wish layout settings rising (raised first cert) floors mesh kept =
-    (kept.0, kept.1.fit.writable, kept.2.writable)
+kept_writable wish layout settings rising (raised first cert) floors mesh kept = search rules
 kept_writable wish layout settings rising (risen first rises after) floors mesh kept =
     let there = (kept.2.each 0 kept.2.some).there in (
       kept.0,
@@ -231,8 +206,7 @@ framed front behind soup is names before after =
 pub kept_allowed : (wish : Wish) (layout : Layout) (settings : Settings) (rising : Rising) (certificates : Certificates)
     → IsSomeLayout layout → AreKeptBy (HasLeastLengths wish layout settings) layout (given_floors settings) rising
     certificates → list_all (may_stand rising) (certificate_lines rising certificates) ≡ true
-kept_allowed wish layout settings rising certificates mesh kept = chosen_allowed rising certificates
-    (kept_writable wish layout settings rising certificates (given_floors settings) mesh kept)
+kept_allowed wish layout settings rising certificates mesh kept = search (rules, chosen_allowed, kept_writable)
 
 -- The text of a refined mesh.
 pub refined_read : (by : ℕ) (soup : FaceSet) (layout : Layout) → IsSomeLayout layout → 0 < by → by < 2 ^ 64
@@ -287,12 +261,7 @@ first_line head rest inside = ap lines_of (sym (append_assoc head (10 ∷ []) re
 -- Silent lines add no marked one.
 marked_around : (mesh between certs : Bytes) → ends_line mesh ≡ true → IsSilent between
     → filter is_hash_line (lines_of (mesh ++ (between ++ certs))) ≡ filter is_hash_line (lines_of (mesh ++ certs))
-marked_around mesh between certs ends silent = ap (filter is_hash_line) (lines_append mesh (between ++ certs) ends
-    ∙ ap (λ (ls : Lines). lines_of mesh ++ ls) (lines_append between certs silent.ended))
-    ∙ (filter_append is_hash_line (lines_of mesh) (lines_of between ++ lines_of certs)
-    ∙ ap (λ (ls : Lines). filter is_hash_line (lines_of mesh) ++ ls) (filter_append is_hash_line (lines_of between)
-    (lines_of certs) ∙ ap (λ (ls : Lines). ls ++ filter is_hash_line (lines_of certs)) silent.plain)) ∙ sym (ap
-    (filter is_hash_line) (lines_append mesh certs ends) ∙ filter_append is_hash_line (lines_of mesh) (lines_of certs))
+marked_around mesh between certs ends silent = search (rules, lines_append, filter_append)
 
 pub none_silent : IsSilent []
 none_silent = record { ended = refl; plain = refl }
@@ -300,8 +269,7 @@ none_silent = record { ended = refl; plain = refl }
 -- What is told depends on the marked lines alone.
 tells_same : (rising : Rising) (behind others : Lines) (certificates : Certificates) → filter is_hash_line behind
     ≡ filter is_hash_line others → TellCerts rising behind certificates → TellCerts rising others certificates
-tells_same rising behind others certificates marked tells =
-    record { said = tells.said; texts = sym marked ∙ tells.texts; allowed = tells.allowed; are = tells.are }
+tells_same rising behind others certificates marked tells = search rules
 
 module _ (task : Task) (soup : FaceSet) (layout : Layout) (certificates : Certificates) (some : 1 ≤ task.settings.floor)
     (solid : IsSolid soup) (mesh : IsSomeLayout layout) (kept : AreKeptBy
@@ -316,15 +284,11 @@ module _ (task : Task) (soup : FaceSet) (layout : Layout) (certificates : Certif
   certs = text_of (certificate_lines task.rising certificates)
 
   fine : IsPrintable new
-  fine = printable soup solid layout mesh task.shares (lengths_in (used certificates).x)
-      (used_lengths task.wish layout task.settings task.rising certificates some kept) coarse
+  fine = search (rules, printable, used_lengths)
 
   marked : filter is_hash_line (drop 1 (lines_of (finished_text task soup layout certificates)))
       ≡ filter is_hash_line (lines_of (canonical_text new ++ certs))
-  marked = ap (λ (ls : Lines). filter is_hash_line (drop 1 ls)) (first_line task.head (text_behind_head
-      (task.between layout (lengths_in (used certificates).x)) task.rising soup layout task.shares certificates) inside)
-      ∙ marked_around (canonical_text new) (task.between layout (lengths_in (used certificates).x)) certs
-      (canonical_ends new) silent
+  marked = search (rules, first_line, marked_around, canonical_ends)
 
   pub task_told : (other : Certificates) → TellCerts task.rising (drop 1 (lines_of (finished_text task soup layout
       certificates))) other ↔ (other ≡ certificates)

@@ -1,5 +1,5 @@
 -- An accepted certificate of the network of a layout certifies its lengths, and can be written.
-use Rattle.std.proofs.Common.{◌≡◌, ℕ, zero, suc, ◌^◌, ◌<◌, ◌≤◌, Bool, true, ◌&&◌, List, [], ◌∷◌, ◌++◌, length, map}
+use Rattle.std.proofs.Common.{rules, ◌≡◌, ℕ, zero, suc, ◌^◌, ◌<◌, ◌≤◌, Bool, true, List, [], ◌∷◌, ◌++◌, length, map}
 use Rattle.std.proofs.Common.{take, drop, refl, sym, ◌∙◌, arith, ℤ, ap}
 use Rattle.std.proofs.lemmas.Bool.{and_from, and_parts, le-leb, leb-true, lt-ltb}
 use Rattle.std.proofs.{lemmas.Bool.Decides.nat_tests, lemmas.List.take-append-drop, lemmas.List.Folds.list_all-append}
@@ -93,12 +93,4 @@ standing_short (x ∷ xs) all (suc k) l = standing_short xs (and_parts _ _ all).
 
 pub writable_short : (cert : Lists) → IsWritableCert cert → (k : ℕ) → k < length cert.x
     → slice_index cert.x k ≤ MAX_LENGTH
-writable_short cert is =
-    let arcs = map lines.Length cert.x in
-    let vertices = dual_lines lines.Vertex cert.y (take (length cert.y) cert.up) in
-    let sets = dual_lines lines.Set cert.z (drop (length cert.y) cert.up) in
-    let all : (list_all (may_stand Never) (arcs ++ vertices) && list_all (may_stand Never) sets)
-    ≡ true = sym (list_all-append (may_stand Never) (arcs ++ vertices) sets) ∙ is.allowed in
-    let both : (list_all (may_stand Never) arcs && list_all (may_stand Never) vertices)
-    ≡ true = sym (list_all-append (may_stand Never) arcs vertices) ∙ (and_parts _ _ all).0 in
-    standing_short cert.x (and_parts _ _ both).0
+writable_short cert is = search (rules, list_all-append, standing_short)

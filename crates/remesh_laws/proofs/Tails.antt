@@ -1,11 +1,10 @@
 -- The lines of the tail of a text are its last lines.
-use Rattle.std.proofs.Common.{◌≡◌, ℕ, zero, suc, ◌+◌, ◌==◌, [], ◌∷◌, drop, map, slice_index_or, refl, sym, ◌∙◌, ap}
-use Rattle.std.proofs.Common.{arith, inl, inr, ◌<◌, Bool, true, false, if◌then◌else◌, ◌++◌, length}
+use Rattle.std.proofs.Common.{rules, ◌≡◌, ℕ, zero, suc, ◌+◌, [], ◌∷◌, drop, map, slice_index_or, refl, sym, ◌∙◌, ap}
+use Rattle.std.proofs.Common.{arith, ◌<◌, true, ◌++◌, length}
 use Rattle.std.proofs.lemmas.List.{drop-drop, drop-map, get_or-drop, length-map, map-append}
-use Rattle.std.proofs.{lemmas.Bool.cases_Bool, Math.Seq.drop-append_seam}
+use Rattle.{std.proofs.Math.Seq.drop-append_seam, std.specs.List.flat_map, def_remesh.specs.ReadAgain.ends_line}
 use Rattle.def_io.specs.{Bytes.Bytes, Bytes.Lines, Lines.byte_in_front, Lines.pieces, Lines.line_of, Lines.lines_of}
 use Rattle.def_io.specs.{Lines.tail_of}
-use Rattle.{std.specs.List.flat_map, def_remesh.specs.ReadAgain.ends_line}
 
 -- The byte in front stands in front of all.
 flat-in_front : (b : ℕ) (ps : Lines) → flat_map (λ p. p) (byte_in_front b ps) ≡ b ∷ flat_map (λ p. p) ps
@@ -15,26 +14,13 @@ flat-in_front b (p ∷ ps) = refl
 -- The pieces joined are the text.
 pub flat-pieces : (bs : Bytes) → flat_map (λ p. p) (pieces bs) ≡ bs
 flat-pieces [] = refl
-flat-pieces (b ∷ bs) = elim (cases_Bool (b == 10)) [
-  | inl on ↦ rw on (ap (λ xs. b ∷ xs) (flat-pieces bs))
-  | inr off ↦ rw off (flat-in_front b (pieces bs) ∙ ap (λ xs. b ∷ xs) (flat-pieces bs))
-]
-
--- A byte in front of the first piece changes no later one.
-drop-in_front : (b i : ℕ) (ps : Lines) → drop (suc i) (byte_in_front b ps) ≡ drop (suc i) ps
-drop-in_front b zero [] = refl
-drop-in_front b (suc i) [] = refl
-drop-in_front b i (p ∷ ps) = refl
+flat-pieces (b ∷ bs) = search (rules, flat-pieces bs)
 
 -- Cutting the last pieces, joined, gives them back.
 pieces-drop : (i : ℕ) (bs : Bytes) → pieces (flat_map (λ p. p) (drop i (pieces bs))) ≡ drop i (pieces bs)
 pieces-drop zero bs = ap pieces (flat-pieces bs)
 pieces-drop (suc i) [] = refl
-pieces-drop (suc i) (b ∷ bs) = elim (cases_Bool (b == 10)) [
-  | inl on ↦ rw on (pieces-drop i bs)
-  | inr off ↦ rw off (ap (λ ps. pieces (flat_map (λ p. p) ps)) (drop-in_front b i (pieces bs))
-      ∙ (pieces-drop (suc i) bs ∙ sym (drop-in_front b i (pieces bs))))
-]
+pieces-drop (suc i) (b ∷ bs) = search (rules, pieces-drop i bs, pieces-drop (suc i) bs)
 
 pub lines-tail : (i : ℕ) (bs : Bytes) → lines_of (tail_of i bs) ≡ drop i (lines_of bs)
 lines-tail i bs = ap (map line_of) (pieces-drop i bs) ∙ sym (drop-map line_of i (pieces bs))
@@ -51,28 +37,13 @@ tail_behind i bs = ap (λ (ls : Lines). drop 1 ls) (lines-tail i bs) ∙ drop-dr
 
 -- Some bytes have some piece.
 some_piece : (byte : ℕ) (bytes : Bytes) → 0 < length (pieces (byte ∷ bytes))
-some_piece byte bytes = by_test (byte == 10) (pieces bytes)
-  where
-    by_test : (t : Bool) (ps : Lines) → 0 < length (if t then (byte ∷ []) ∷ ps else byte_in_front byte ps)
-    by_test true ps = omega arith
-    by_test false [] = omega arith
-    by_test false (p ∷ ps) = omega arith
+some_piece byte bytes = search rules
 
 -- A byte stands in front of the first piece, whatever is behind.
-front_append : (byte : ℕ) (ps qs : Lines) → 0 < length ps → byte_in_front byte (ps ++ qs) ≡ byte_in_front byte ps ++ qs
-front_append byte [] qs some = absurd (omega (arith, some))
-front_append byte (p ∷ ps) qs some = refl
-
 pieces_append : (bytes rest : Bytes) → ends_line bytes ≡ true → pieces (bytes ++ rest) ≡ pieces bytes ++ pieces rest
 pieces_append [] rest ends = refl
 pieces_append (byte ∷ []) rest ends = rw ends refl
-pieces_append (byte ∷ next ∷ bytes) rest ends =
-    let more = pieces_append (next ∷ bytes) rest ends in
-    elim (cases_Bool (byte == 10)) [
-      | inl on ↦ rw on (ap (λ (ps : Lines). (byte ∷ []) ∷ ps) more)
-      | inr off ↦ rw off (ap (byte_in_front byte) more
-          ∙ front_append byte (pieces (next ∷ bytes)) (pieces rest) (some_piece next bytes))
-    ]
+pieces_append (byte ∷ next ∷ bytes) rest ends = search (rules, pieces_append (next ∷ bytes) rest ends)
 
 -- The lines are those of both.
 pub lines_append : (old text : Bytes) → ends_line old ≡ true → lines_of (old ++ text) ≡ lines_of old ++ lines_of text

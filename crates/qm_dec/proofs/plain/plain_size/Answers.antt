@@ -1,4 +1,4 @@
-use Rattle.std.proofs.{Common.arith, Common.sym, lemmas.Bool.eqb-true, lemmas.Option.IfSome_then}
+use Rattle.std.proofs.{Common.rules, Common.arith, Common.sym, lemmas.Bool.eqb-true, lemmas.Option.IfSome_then}
 use Rattle.qm_dec.proofs.FewDigits.{IsPrefix, prefix_is, prefix_small, pointed_size, whole_size}
 use Rattle.qm_dec.proofs.{Digits.some_from, plain.plain_size.Goals.After-add_digits-whole}
 use Rattle.qm_dec.proofs.plain.plain_size.Goals as goal
@@ -6,8 +6,7 @@ use Rattle.qm_dec.proofs.plain.plain_size.Goals as goal
 -- What the digits say with which the body begins.
 whole : (c : After-add_digits-whole) → IsPrefix c.unsigned-body.result.now c.add_digits-whole.result.1
     c.add_digits-whole.result.0
-whole c =
-    let digits = c.add_digits-whole.ensures in prefix_is c.min.ensures digits.within digits.digits digits.exact
+whole c = search (rules, prefix_is)
 
 pub overflow_mul-result : goal.overflow_mul-result
 overflow_mul-result c = omega (arith, prefix_small (whole (goal.at.overflow_mul-result c).After-add_digits-whole))

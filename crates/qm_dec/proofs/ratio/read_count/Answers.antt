@@ -1,12 +1,10 @@
-use Rattle.std.proofs.Common.{◌≡◌, ap, sym, ◌∙◌, arith, min, ℕ, ◌≤◌}
-use Rattle.std.proofs.lemmas.Bool.{false≢true}
+use Rattle.std.proofs.Common.{rules, ◌≡◌, ap, sym, ◌∙◌, arith, min, ℕ, ◌≤◌}
+use Rattle.{std.proofs.lemmas.Bool.false≢true, std.specs.Prelude.decimal, def_text.specs.Digits.number_written}
 use Rattle.qm_dec.proofs.{ReadBack.not_printed, ReadBack.decimal_number, ratio.read_count.Goals.After-min-n}
-use Rattle.{std.specs.Prelude.decimal, def_text.specs.Digits.number_written}
 use Rattle.qm_dec.proofs.ratio.read_count.Goals as goal
 
 pub returns-then-not-are_digits : goal.returns-then-not-are_digits
-returns-then-not-are_digits c n l h is =
-    not_printed c.args.word.now c.if-not-are_digits.ensures n (omega (arith, c.requires, h)) is
+returns-then-not-are_digits c n l h is = search (rules, not_printed)
 
 -- A printed number is read as itself.
 read : (c : After-min-n) (n : ℕ) → n ≤ c.args.greatest → c.args.word.now ≡ decimal n → c.min-n.result ≡ n

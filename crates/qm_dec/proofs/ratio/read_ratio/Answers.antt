@@ -1,7 +1,6 @@
 use Rattle.std.proofs.Common.{◌≡◌, ℕ, ◌<◌, List, take, drop, length, ap, sym, ◌∙◌, arith}
-use Rattle.std.proofs.lemmas.Bool.{eqb-true}
+use Rattle.{std.proofs.lemmas.Bool.eqb-true, std.specs.List.position_or_len, def_text.specs.Corner.is_slash}
 use Rattle.qm_dec.proofs.{Digits.some_from, ReadBack.joined, ReadBack.sides, ratio.read_ratio.Goals.After-split_at}
-use Rattle.{std.specs.List.position_or_len, def_text.specs.Corner.is_slash}
 use Rattle.qm_dec.proofs.ratio.read_ratio.Goals as goal
 
 -- What stands before the slash, and from it on.

@@ -1,14 +1,10 @@
-use Rattle.std.proofs.Common.{ap, sym, ◌+◌, ◌-◌, ◌++◌, length, length-append, arith}
+use Rattle.std.proofs.Common.{rules, ◌+◌, ◌-◌, ◌++◌, length, length-append, arith}
 use Rattle.std.proofs.lemmas.Bool.{le-ltb, lt-ltb}
-use Rattle.qm_dec.specs.Sizes.{clamped}
 use Rattle.qm_dec.proofs.Digits.{digits_both, cut_is, cut_zero}
 use Rattle.qm_dec.proofs.size.round_at.Goals as goal
 
 pub returns-then-last-count : goal.returns-then-last-count
-returns-then-last-count c =
-    ap clamped (sym (cut_zero (c.args.whole.now ++ c.args.fraction.now) (c.args.last - 1)
-    (digits_both c.args.whole.now c.args.fraction.now c.requires.whole c.requires.fraction)
-    (omega (arith, length-append c.args.whole.now c.args.fraction.now))))
+returns-then-last-count c = search (rules, cut_zero, digits_both, length-append)
 
 pub returns-then-digit_at-lt53 : goal.returns-then-digit_at-lt53
 returns-then-digit_at-lt53 c = cut_is (c.args.whole.now ++ c.args.fraction.now)

@@ -1,6 +1,5 @@
 use Rattle.std.proofs.Common.{List, arith, false, length, subst, ℕ, ◌+◌, ◌-◌, ◌==◌, ◌≡◌}
-use Rattle.std.proofs.Math.Seq.{take-length}
-use Rattle.{std.specs.List.list_any, qm_io.proofs.Cuts.none_in_front}
+use Rattle.{std.proofs.Math.Seq.take-length, std.specs.List.list_any, qm_io.proofs.Cuts.none_in_front}
 use Rattle.qm_io.proofs.ends.end_of_line.Goals as goal
 
 pub returns-in-Some-clause-first : goal.returns-in-Some-clause-first

@@ -1,5 +1,5 @@
-use Rattle.std.proofs.Common.{List, ap, arith, drop, length, length-drop, refl, suc, take, ℕ, ◌+◌, ◌-◌, ◌<◌, ◌∷◌, ◌≡◌}
-use Rattle.std.proofs.{Math.Seq.drop-length, lemmas.List.drop-drop, lemmas.List.take_rest}
+use Rattle.std.proofs.Common.{rules, List, arith, drop, length, length-drop, suc, take, ℕ, ◌+◌, ◌-◌, ◌<◌, ◌∷◌, ◌≡◌}
+use Rattle.std.proofs.{lemmas.List.drop-drop, lemmas.List.take_rest}
 use Rattle.memchr.specs.Find.{NoneBefore, Nowhere, Passes, is_byte}
 use Rattle.{def_io.specs.Lines.pieces, qm_io.proofs.Cuts.pieces-first, qm_io.proofs.Cuts.pieces-none}
 use Rattle.qm_io.proofs.ends.end_of_piece.Goals as goal
@@ -18,14 +18,10 @@ ends_behind bs rest start k n is found end =
 is_whole : (bs rest : List ℕ) (start : ℕ) → rest ≡ drop start bs → start < length bs
     → Nowhere (Passes (is_byte 10) rest) 0 (length rest)
     → pieces (drop start bs) ≡ take (length bs - start) (drop start bs) ∷ pieces (drop (length bs) bs)
-is_whole bs rest start is there none =
-    let some : 0 < length rest = omega (arith, ap length is, length-drop start bs) in
-    let one = pieces-none rest some (λ j m. none j (omega arith) m) in
-    rw (drop-length bs, take_rest bs start, ← is) one
+is_whole bs rest start is there none = search (rules, length-drop, pieces-none, take_rest)
 
 pub returns-in-Some-clause-first : goal.returns-in-Some-clause-first
-returns-in-Some-clause-first c = ends_behind c.args.bytes.now _ c.args.start c.in-Some.ahead
-    (c.args.start + c.in-Some.ahead + 1) (take_rest c.args.bytes.now c.args.start) c.in-Some.ensures refl
+returns-in-Some-clause-first c = search (rules, ends_behind, take_rest)
 
 pub returns-in-None-clause-first : goal.returns-in-None-clause-first
 returns-in-None-clause-first c = is_whole _ _ _ (take_rest c.args.bytes.now c.args.start) c.requires c.in-None.ensures

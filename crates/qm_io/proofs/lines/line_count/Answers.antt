@@ -1,17 +1,10 @@
-use Rattle.std.proofs.{Common.length, Common.sym, Common.ap, Common.◌∙◌, Common.arith, lemmas.List.length-map}
+use Rattle.std.proofs.{Common.rules, Common.length, Common.sym, Common.ap, Common.◌∙◌, lemmas.List.length-map}
 use Rattle.def_io.specs.Lines.{pieces, line_of}
 use Rattle.qm_io.proofs.Cuts.{length-pieces, length-ends_from}
 use Rattle.qm_io.proofs.lines.line_count.Goals as goal
 
 pub overflow_cast-result : goal.overflow_cast-result
-overflow_cast-result c =
-    omega (
-      arith,
-      ap length c.requires.cut,
-      length-ends_from 0 (pieces c.args.bytes.now),
-      length-pieces c.args.bytes.now,
-      c.requires.few,
-    )
+overflow_cast-result c = search (rules, length-ends_from, length-pieces)
 
 pub returns : goal.returns
 returns c = ap length c.requires.cut ∙ length-ends_from 0 (pieces c.args.bytes.now) ∙ sym

@@ -1,5 +1,5 @@
-use Rattle.std.proofs.Common.{List, arith, drop, length, refl, slice_index, slice_index_or, take, ℕ, ◌+◌, ◌-◌, ◌<◌, ◌∙◌}
-use Rattle.std.proofs.Common.{[], ap, ◌∷◌, ◌≡◌, ◌≤◌}
+use Rattle.std.proofs.Common.{rules, List, arith, drop, length, refl, slice_index, slice_index_or, take, ℕ, ◌+◌, ◌-◌}
+use Rattle.std.proofs.Common.{◌<◌, ◌∙◌, [], ap, ◌∷◌, ◌≡◌, ◌≤◌}
 use Rattle.qm_io.proofs.Cuts.{begin, end-begin, end-there, end-within, piece-cut, piece-there}
 use Rattle.{def_io.specs.Lines.lines_of, def_io.specs.Lines.pieces, qm_io.specs.Ends.ends_from}
 use Rattle.qm_io.proofs.lines.piece_at.Goals as goal
@@ -31,12 +31,10 @@ pub end_of-requires : goal.end_of-requires
 end_of-requires c = omega (arith, end-there c.args.bytes.now c.args.ends.now c.args.i c.requires.cut c.requires.there)
 
 pub slice_bounds-result-count : goal.slice_bounds-result-count
-slice_bounds-result-count c =
-    in_order c.args.bytes.now c.requires.cut c.start_of.ensures c.end_of.ensures c.requires.there
+slice_bounds-result-count c = search (rules, in_order)
 
 pub slice_bounds-result-start : goal.slice_bounds-result-start
-slice_bounds-result-start c =
-    in_order c.args.bytes.now c.requires.cut c.start_of.ensures c.end_of.ensures c.requires.there
+slice_bounds-result-start c = search (rules, in_order)
 
 pub slice_bounds-result-end : goal.slice_bounds-result-end
 slice_bounds-result-end c = within c.args.bytes.now c.requires.cut c.start_of.ensures c.end_of.ensures c.requires.there

@@ -1,8 +1,7 @@
 use Rattle.std.proofs.Common.{List, ap, arith, drop, length, slice_index, take, ℕ, ◌-◌, ◌<◌, ◌∙◌, ◌∷◌, ◌≡◌, ◌≤◌}
-use Rattle.std.proofs.lemmas.List.{take_rest}
+use Rattle.{std.proofs.lemmas.List.take_rest, qm_io.specs.Ends.ends_from}
 use Rattle.qm_io.proofs.Cuts.{begin-within, end-there, piece-there, tail-cut}
 use Rattle.def_io.specs.Lines.{lines_of, tail_of, pieces}
-use Rattle.qm_io.specs.Ends.{ends_from}
 use Rattle.qm_io.proofs.lines.tail_at.Goals as goal
 
 module _ (bs : List ℕ) {es : List ℕ} {i start : ℕ} (cut : es ≡ ends_from 0 (pieces bs))

@@ -1,6 +1,5 @@
 use Rattle.std.proofs.Common.{arith, false, ltb, refl, sym, true, ◌∙◌, ◌≡◌}
-use Rattle.std.proofs.lemmas.Bool.{le-ltb}
-use Rattle.def_text.specs.{Reading.is_letter, Words.words}
+use Rattle.{std.proofs.lemmas.Bool.le-ltb, def_text.specs.Reading.is_letter, def_text.specs.Words.words}
 use Rattle.{qm_obj.proofs.WordLemmas.by_first_word, qm_obj.specs.Lines.uncommented}
 
 pub returns-then-is_one : Rattle.qm_obj.proofs.line.read_line.Goals.returns-then-is_one

@@ -1,20 +1,11 @@
-use Rattle.qm_obj.proofs.JoinLemmas.{joined_logical, joined_short, same_refused, same_took}
+use Rattle.std.proofs.{Common.rules, Common.◌+◌, Common.◌∙◌, Common.◌≡◌}
+use Rattle.qm_obj.proofs.JoinLemmas.{joined_logical, joined_short, same_took}
 use Rattle.qm_obj.{proofs.read.take_joined.Goals.After-deref, specs.Lines.first_logical, specs.Lines.line_as}
-use Rattle.std.proofs.{Common.ap, Common.arith, Common.length, Common.◌+◌, Common.◌∙◌, Common.◌≡◌}
-use Rattle.{def_io.specs.Lines.lines_of, error_laws.proofs.Errors.handed, std.specs.Prelude.slice_range}
+use Rattle.{def_io.specs.Lines.lines_of, std.specs.Prelude.slice_range}
 use Rattle.qm_obj.proofs.read.take_joined.Goals as goal
 
 pub take-requires : goal.take-requires
-take-requires c =
-    let rest = c.args.rest.now in
-    let joined = c.in_ok-joined.ensures in
-    omega (
-      arith,
-      ap length c.deref.ensures.value,
-      ap length joined.bytes,
-      joined_short
-          (slice_range (lines_of rest.lines.now) rest.first rest.after),
-    )
+take-requires c = search (rules, joined_short)
 
 -- The line that is read is the first logical one.
 same : (c : After-deref) → let rest = c.args.rest.now in
@@ -29,6 +20,4 @@ pub returns-clause-kept : goal.returns-clause-kept
 returns-clause-kept c = same_took (same (goal.at.returns-clause-kept c).After-deref) c.in_ok-take.ensures.kept
 
 pub returns-in_err-take-clause-refused : goal.returns-in_err-take-clause-refused
-returns-in_err-take-clause-refused c = handed _ _ _ c.from_residual-in_err-take.ensures.1 (λ other.
-    same_refused (same (goal.at.returns-in_err-take-clause-refused c).After-deref) c.args.reader.now.positions.items
-    c.args.reader.now.faces.items (c.in_err-take.ensures.refused other))
+returns-in_err-take-clause-refused c = search (rules, same)

@@ -1,7 +1,6 @@
-use Rattle.std.proofs.Common.{false, length, sym, ◌+◌, ◌∙◌, ◌≡◌}
-use Rattle.qm_obj.proofs.{JoinLemmas.same_refused, JoinLemmas.single_logical, JoinLemmas.same_took}
-use Rattle.qm_obj.proofs.{read.take_logical.Goals.After-goes_on}
-use Rattle.qm_obj.specs.Lines.{first_logical, line_as}
+use Rattle.std.proofs.Common.{rules, false, length, ◌+◌, ◌≡◌}
+use Rattle.qm_obj.{proofs.JoinLemmas.same_refused, proofs.JoinLemmas.single_logical, proofs.JoinLemmas.same_took}
+use Rattle.qm_obj.{proofs.read.take_logical.Goals.After-goes_on, specs.Lines.first_logical, specs.Lines.line_as}
 use Rattle.{std.specs.Prelude.slice_range, def_io.specs.Lines.lines_of, error_laws.proofs.Errors.handed}
 use Rattle.qm_obj.proofs.read.take_logical.Goals as goal
 
@@ -9,10 +8,7 @@ use Rattle.qm_obj.proofs.read.take_logical.Goals as goal
 same : (c : After-goes_on) → c.goes_on.result ≡ false → let rest = c.args.rest.now in
     line_as (rest.first + 1) (length c.line-line.result.now) c.line-line.result.now
     ≡ first_logical (rest.first + 1) (slice_range (lines_of rest.lines.now) rest.first rest.after)
-same c off =
-    let rest = c.args.rest.now in
-    single_logical (lines_of rest.lines.now) rest.first rest.after rest.some rest.within c.line-line.result.now
-    c.line-line.ensures (sym c.goes_on.ensures ∙ off)
+same c off = search (rules, single_logical)
 
 pub returns-clause-kept : goal.returns-clause-kept
 returns-clause-kept c =

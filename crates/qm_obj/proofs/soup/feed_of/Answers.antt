@@ -1,4 +1,4 @@
-use Rattle.std.proofs.Common.{Err, ap, arith, ◌+◌, ◌-◌, ◌∙◌, ◌≡◌}
+use Rattle.std.proofs.Common.{rules, Err, ap, arith, ◌+◌, ◌-◌, ◌∙◌, ◌≡◌}
 use Rattle.qm_obj.proofs.FeedLemmas.{fed_more, fed_whole, gave_beyond}
 use Rattle.{std.specs.List.length_refill, error_laws.proofs.Errors.same_error}
 use Rattle.qm_obj.proofs.soup.feed_of.Goals as goal
@@ -24,7 +24,5 @@ pieces-preserved g c =
       fed = rw many (fed_more so_far.fed c.in_ok-count.ensures.fed);
       calm = c.in_ok-count.ensures.calm ∙ so_far.calm;
       short = omega arith;
-      room =
-          let g0 = length_refill buffer.len buffer.items c.feed_piece.new.buffer buffer.ok.0 in
-          omega arith;
+      room = search (rules, length_refill);
     }

@@ -1,9 +1,8 @@
-use Rattle.std.proofs.Common.{[], ap, arith, below_more, get_or, length, ◌++◌, ◌+◌, ◌∙◌, ◌∷◌, ◌≡◌}
-use Rattle.std.proofs.{lemmas.Grind.common_steps, lemmas.List.get_or_append_left, lemmas.List.get_or_push}
-use Rattle.std.proofs.{lemmas.List.length_push}
+use Rattle.std.proofs.Common.{rules, [], ap, arith, below_more, get_or, length, ◌++◌, ◌+◌, ◌∙◌, ◌∷◌, ◌≡◌}
+use Rattle.std.proofs.lemmas.List.{get_or_append_left, get_or_push}
 use Rattle.qm_obj.proofs.used.keep_marked.Goals.{else-marks-k, then-marks-k+in_ok-keep_position}
-use Rattle.qm_obj.proofs.SoupLemmas.{kept_mark, kept_skip}
-use Rattle.qm_obj.specs.Kept.{chosen}
+use Rattle.{std.proofs.lemmas.Grind.common_steps, qm_obj.proofs.SoupLemmas.kept_mark}
+use Rattle.{qm_obj.proofs.SoupLemmas.kept_skip, qm_obj.specs.Kept.chosen}
 
 pub loop-k-preserved : Rattle.qm_obj.proofs.used.keep_marked.Goals.loop-k-preserved
 loop-k-preserved c =
@@ -18,8 +17,7 @@ loop-k-preserved c =
             (kept_mark c.loop-k-test.true w.if-marks-k.true before)
         | else-marks-k w ↦ rw (w.positions-is, w.names-is) (kept_skip w.if-marks-k.false before)
       ];
-      count = ap length pushed ∙ length_push c.loop-k.vertices.items (length c.loop-k.names.items)
-          ∙ ap (λ n. n + 1) count;
+      count = search rules;
       vertices = rw pushed (below_more (λ j. get_or (c.loop-k.vertices.items ++ length c.loop-k.names.items ∷ []) j 0
           ≡ length (chosen c.args.marks.now j)) c.loop-k.k (λ j l. get_or_append_left c.loop-k.vertices.items
           (length c.loop-k.names.items ∷ []) 0 j (omega arith) ∙ c.loop-k.invariant.vertices j l) (get_or_push

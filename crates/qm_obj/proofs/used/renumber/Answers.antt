@@ -1,14 +1,12 @@
-use Rattle.std.proofs.Common.{ap, arith, get_or, length, map, ◌-◌, ◌<◌, ◌∙◌, ◌≡◌}
-use Rattle.std.proofs.lemmas.List.{length-set}
-use Rattle.qm_obj.proofs.{TailLemmas.at_back, TailLemmas.back_more, TailLemmas.mapped_more, TailLemmas.passes_at}
-use Rattle.qm_obj.proofs.{used.renumber.Goals.After-index}
-use Rattle.qm_obj.specs.Kept.{are_numbers}
+use Rattle.std.proofs.Common.{rules, ap, arith, get_or, length, map, ◌-◌, ◌<◌, ◌∙◌, ◌≡◌}
+use Rattle.qm_obj.proofs.TailLemmas.{at_back, back_more, mapped_more, passes_at}
+use Rattle.{std.proofs.lemmas.List.length-set, qm_obj.proofs.used.renumber.Goals.After-index}
+use Rattle.{qm_obj.specs.Kept.are_numbers}
 use Rattle.qm_obj.proofs.used.renumber.Goals as goal
 
 -- The face is still the one that it was.
 same : (c : After-index) → c.index.result.now ≡ get_or c.args.faces.now.items c.loop-f.f c.index.result.now
-same c = c.index.ensures ∙ at_back c.loop-f.faces.items c.args.faces.now.items c.loop-f.f c.index.result.now
-    c.loop-f.invariant.back
+same c = search (rules, at_back)
 
 pub new_corners-requires : goal.new_corners-requires
 new_corners-requires c =
@@ -27,6 +25,5 @@ loop-f-preserved c =
           c.loop-f.invariant.size (c.new_corners.ensures ∙ ap
           (map (λ corner. get_or c.args.vertices.now (corner - 1) 0)) (same (goal.at.loop-f-preserved c).After-index))
           c.loop-f.invariant.prefix;
-      back = back_more c.loop-f.faces.items c.args.faces.now.items c.loop-f.f c.loop-f.f c.new_corners.result
-          (omega arith) c.loop-f.invariant.back;
+      back = search (rules, back_more);
     }

@@ -1,3 +1,4 @@
+use Rattle.std.proofs.Common.{rules}
 use Rattle.qm_obj.proofs.{SoupLemmas.face_set_is_soup, SoupLemmas.made_of, used.soup_of.Goals.After-renumber}
 use Rattle.{std.proofs.Common.length, std.proofs.Common.◌≡◌, def_text.specs.Text.face_set, qm_obj.specs.Kept.IsMarked}
 use Rattle.qm_obj.proofs.used.soup_of.Goals as goal
@@ -20,6 +21,4 @@ pub returns : goal.returns
 returns c = made (goal.at.returns c).After-renumber
 
 pub invariant_of-result : goal.invariant_of-result
-invariant_of-result c =
-    rw (made (goal.at.invariant_of-result c).After-renumber)
-    (face_set_is_soup c.args.positions.items c.args.faces.items c.requires.known)
+invariant_of-result c = search (rules, made, face_set_is_soup)

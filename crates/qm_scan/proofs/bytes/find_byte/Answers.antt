@@ -1,11 +1,9 @@
-use Rattle.std.proofs.{Common.length, Common.arith, Common.sym, Common.eqb, lemmas.Bool.eq-eqb}
+use Rattle.std.proofs.{Common.rules, Common.length, Common.arith, Common.sym, Common.eqb}
 use Rattle.std.proofs.lemmas.List.Sums.{position_or_len_is}
 use Rattle.qm_scan.proofs.bytes.find_byte.Goals as goal
 
 pub returns-then-byte-wanted-clause-exact : goal.returns-then-byte-wanted-clause-exact
-returns-then-byte-wanted-clause-exact c =
-    sym (position_or_len_is (λ b. eqb b c.args.wanted) c.args.text.now c.loop-i.i 0 (omega arith) c.loop-i.invariant
-    (λ _. eq-eqb _ _ c.if-byte-wanted.true))
+returns-then-byte-wanted-clause-exact c = search (rules, position_or_len_is)
 
 pub returns-clause-exact : goal.returns-clause-exact
 returns-clause-exact c =

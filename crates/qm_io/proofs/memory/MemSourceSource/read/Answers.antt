@@ -1,7 +1,6 @@
-use Rattle.std.proofs.Common.{List, Some, ap, arith, drop, length, min, sym, take, ℕ, ◌++◌, ◌+◌, ◌-◌, ◌∙◌, ◌≡◌}
+use Rattle.std.proofs.Common.{rules, List, ap, arith, drop, length, min, sym, take, ℕ, ◌++◌, ◌+◌, ◌-◌, ◌∙◌, ◌≡◌}
 use Rattle.std.proofs.lemmas.List.{drop-drop, length-take-le, take-append-drop, take_rest}
 use Rattle.std.proofs.Math.Seq.{take-append_seam}
-use Rattle.def_io.specs.Memory.{Feed}
 
 -- What was copied to the front of the buffer, and the rest behind it, are what was left.
 given : (bytes rest copied buf : List ℕ) (at n m : ℕ) → rest ≡ drop at bytes → n ≡ min m (length rest)
@@ -13,12 +12,4 @@ given bytes rest copied buf at n m is few copy =
     cc (is, take-append-drop n rest, prefix, copy, drop-drop n at bytes)
 
 pub returns-clause-gives : Rattle.qm_io.proofs.memory.MemSourceSource.read.Goals.returns-clause-gives
-returns-clause-gives c =
-    let held = c.deref-2.ensures.value in
-    let rest : take (length c.deref-2.result.now - c.self.inside.at) (drop c.self.inside.at c.deref-2.result.now)
-    ≡ drop c.self.inside.at c.self.inside.bytes.items =
-    take_rest c.deref-2.result.now c.self.inside.at ∙ ap (drop c.self.inside.at) held in
-    ap (λ (s : Feed). Some s.left) (sym c.self.view_is)
-    ∙ ap Some (given c.self.inside.bytes.items _ c.copy_from_slice.new.self c.args.buf.now c.self.inside.at
-    c.min-count.result
-    c.min.result rest c.min-count.ensures c.copy_from_slice.ensures.after)
+returns-clause-gives c = search (rules, take_rest, given)

@@ -1,4 +1,4 @@
-use Rattle.std.proofs.Common.{ap, arith, length, refl}
+use Rattle.std.proofs.Common.{arith}
 use Rattle.qm_obj.proofs.FeedLemmas.{held_line, joined_more, long_line, sound_of}
 use Rattle.qm_obj.proofs.joiner.Joiner.hold.Goals as goal
 
@@ -9,11 +9,6 @@ returns-clause-took c =
 pub returns-then-len-line-gt-MAX_LINE-clause-refused : goal.returns-then-len-line-gt-MAX_LINE-clause-refused
 returns-then-len-line-gt-MAX_LINE-clause-refused c = λ _. rw c.too_long.ensures
     (long_line (sound_of c.args.self.now) c.args.line.now c.number-number.ensures (omega arith))
-
-pub invariant_of-self : goal.invariant_of-self
-invariant_of-self c =
-    let none = c.in_err-append_spaced.ensures.dropped in
-    record { bare = rw none refl; short = omega (arith, ap length none) }
 
 pub invariant_of-self-2 : goal.invariant_of-self-2
 invariant_of-self-2 c =

@@ -1,4 +1,4 @@
-use Rattle.std.proofs.{Common.arith, lemmas.Result.on_ok_weaker}
+use Rattle.std.proofs.{Common.rules, Common.arith, lemmas.Result.on_ok_weaker}
 use Rattle.qm_obj.proofs.FeedLemmas.{kept_piece, long_piece, sound_at, tail_more}
 use Rattle.qm_obj.proofs.progress.Progress.keep.Goals as goal
 
@@ -11,8 +11,4 @@ returns-clause-took c = on_ok_weaker _ (λ grown. kept_piece (sound_at c.args.se
     c.append.ensures.grown
 
 pub invariant_of-self : goal.invariant_of-self
-invariant_of-self c =
-    let self = c.args.self.now in
-    let more = tail_more c.append.result self.tail.items c.args.bytes.now _ c.append.ensures.grown
-    c.append.ensures.still self.unended c.requires.unended in
-    record { unended = more.0; short = omega arith }
+invariant_of-self c = search (rules, tail_more)

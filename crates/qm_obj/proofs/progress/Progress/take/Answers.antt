@@ -1,4 +1,4 @@
-use Rattle.qm_obj.proofs.FeedLemmas.{both_taken, each_behind, refused_before, refused_behind}
+use Rattle.qm_obj.proofs.FeedLemmas.{both_taken, refused_as, refused_before, refused_behind}
 use Rattle.qm_obj.{proofs.TailLemmas.prefix_fed, proofs.TailLemmas.prefix_rest, specs.Views.kept_at}
 use Rattle.std.proofs.lemmas.{List.length-drop, List.length-take, List.take-append-drop, Result.on_ok_weaker}
 use Rattle.std.proofs.{Common.arith, Common.drop, Common.length, Common.take, Common.◌+◌, Common.◌-◌}
@@ -11,10 +11,7 @@ loop-end-preserved c =
     let at = c.loop-end.at in
     let found = c.in-Some.ensures in
     record {
-      within =
-          let g0 = length-take (length piece - at) (drop at piece) in
-          let g1 = length-drop at piece in
-          omega arith;
+      within = omega (arith, length-take (length piece - at) (drop at piece), length-drop at piece);
       took = rw (prefix_fed piece at c.in-Some.end found.more found.within found.feed)
           (both_taken c.loop-end.invariant.took c.in_ok-end_line.ensures.took);
     }
@@ -35,4 +32,5 @@ returns-clause-took c = on_ok_weaker c.keep.result (λ took. rw (← prefix_rest
 
 pub returns-clause-refused : goal.returns-clause-refused
 returns-clause-refused c = rw (← prefix_rest c.args.piece.now c.loop-end.at)
-    (each_behind _ c.keep.result c.loop-end.invariant.took c.keep.ensures.refused)
+    (refused_as c.keep.result c.keep.ensures.refused
+    (λ fail stops. refused_behind _ fail c.loop-end.invariant.took stops))

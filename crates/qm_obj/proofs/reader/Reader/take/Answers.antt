@@ -1,14 +1,12 @@
+use Rattle.std.proofs.Common.{rules}
 use Rattle.qm_obj.proofs.{KeptLemmas.fits_face, KeptLemmas.fits_position, reader.Reader.take.Goals.After-read_line}
-use Rattle.{qm_obj.specs.Lines.line_as, qm_obj.specs.Lines.next_said, std.proofs.Common.sym, std.proofs.Common.◌∙◌}
-use Rattle.{std.proofs.Common.◌≡◌}
+use Rattle.{qm_obj.specs.Lines.line_as, qm_obj.specs.Lines.next_said, std.proofs.Common.◌∙◌, std.proofs.Common.◌≡◌}
 use Rattle.qm_obj.proofs.reader.Reader.take.Goals as goal
 
 -- What the line says.
 said : (c : After-read_line) → next_said c.args.self.now.positions.items c.args.self.now.faces.items
     (line_as c.args.line c.args.size c.args.text.now) ≡ c.read_line.result
-said c =
-    let self = c.args.self.now in
-    sym (rw (c.len.ensures ∙ self.positions.ok.0, c.len-2.ensures ∙ self.faces.ok.0) at c.read_line.ensures)
+said c = search rules
 
 pub invariant_of-self : goal.invariant_of-self
 invariant_of-self c = record {

@@ -1,6 +1,5 @@
-use Rattle.std.proofs.{Common.◌∙◌, lemmas.Result.on_err_weaker, lemmas.Result.on_ok_weaker}
-use Rattle.qm_output.proofs.Prefixes.{of_error}
-use Rattle.qm_output.specs.Laws.{broke_before, broke_later, passed_more}
+use Rattle.std.proofs.{Common.rules, Common.◌∙◌, lemmas.Result.on_err_weaker}
+use Rattle.qm_output.{proofs.Prefixes.of_error, specs.Laws.broke_before, specs.Laws.broke_later, specs.Laws.passed_more}
 use Rattle.qm_output.proofs.buffer.BufferOutput.put.Goals as goal
 
 pub returns-in_err-make_room-clause-part : goal.returns-in_err-make_room-clause-part
@@ -11,12 +10,7 @@ returns-in_err-make_room-clause-part g c =
     )
 
 pub returns-then-piece-self-clause-whole : goal.returns-then-piece-self-clause-whole
-returns-then-piece-self-clause-whole g c = on_ok_weaker c.pass.result
-    (λ passed. (
-      c.pass.ensures.same ∙ c.in_ok-make_room.ensures.same,
-      passed_more _ _ _ _ c.args.piece.now c.in_ok-make_room.ensures.whole passed,
-    ))
-    c.pass.ensures.whole
+returns-then-piece-self-clause-whole g c = search (rules, passed_more)
 
 pub returns-then-piece-self-clause-part : goal.returns-then-piece-self-clause-part
 returns-then-piece-self-clause-part g c = on_err_weaker c.pass.result
