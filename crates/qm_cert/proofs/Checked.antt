@@ -1,8 +1,7 @@
 -- The verdict yes is that the certificate is accepted.
-use Rattle.std.proofs.Common.{◌≡◌, ℕ, ℤ, ◌==◌, nat_lt, not, length, List, Option, Some, None, Err, IfOk, refl, sym, ◌∙◌}
-use Rattle.std.proofs.Common.{ap, inl, inr, ltb-false, le-ltb, eq-eqb, eqb-true, arith, option_map, pos, ◌-ℤ◌, ◌*ℤ◌}
-use Rattle.std.proofs.Common.{true, false, cond, Bool, ◌↔◌, Result, Ok, ◌*◌, ◌^◌, ◌<◌, ◌≤◌, unsigned_abs, mul-le-mul}
-use Rattle.std.proofs.Common.{zero, suc, ◌+◌, add-one}
+use Rattle.std.proofs.Common.{rules, ◌≡◌, ℕ, ℤ, ◌==◌, not, length, List, Option, Some, None, Err, IfOk, refl, sym, ◌∙◌}
+use Rattle.std.proofs.Common.{ap, inl, inr, ltb-false, eq-eqb, eqb-true, arith, option_map, pos, ◌-ℤ◌, ◌*ℤ◌, true}
+use Rattle.std.proofs.Common.{false, cond, Bool, ◌↔◌, Result, Ok, ◌*◌, ◌^◌, ◌<◌, ◌≤◌, unsigned_abs, zero, suc, ◌+◌}
 use Rattle.std.proofs.{lemmas.Int.ints, lemmas.Bool.cases_lt, lemmas.Bool.not-false, lemmas.Bool.Decides.Decides-int_eq}
 use Rattle.std.specs.{Prelude.slice_index, Prelude.if◌then◌else◌, Ordering.int_eq}
 use Rattle.qm_dual.proofs.{Gathered.least_none, Gathered.none_below, Gathered.least_low, Gathered.least_same}
@@ -13,18 +12,16 @@ use Rattle.def_flow.specs.Accepted.{Certificate, IsAccepted, below_fault, unequa
 use Rattle.def_flow.specs.Accepted.{cert_verdict, unequal_at}
 use Rattle.def_flow.specs.declared.cert.CertVerdict.TheVariants.{Count, Below, Sums, Yes as Accepted, Unequal}
 use Rattle.def_flow.specs.{Gadget.lows, Network.Network, Network.IsWithinBounds, Network.arc_at, Network.ends}
-use Rattle.def_flow.specs.{Units.arcwise, Units.down, Units.on_cost, Units.low, MatchingGraph.matching_graph}
+use Rattle.def_flow.specs.{Units.arcwise, Units.down, Units.on_cost, MatchingGraph.matching_graph}
 use Rattle.def_flow.specs.{declared.cert.CertVerdict.CertVerdict, declared.net.Arc.Arc, declared.net.End.End}
 use Rattle.def_matching.specs.{Dual.dual_sum, Dual.refuse, Dual.verdict, declared.weighted.Verdict.Verdict}
 use Rattle.def_matching.specs.{declared.weighted.Verdict.TheVariants.Yes}
-use Rattle.qm_net.proofs.{Balances.no_side_past, Within.arc_within}
+use Rattle.{qm_net.proofs.Balances.no_side_past, qm_net.proofs.Within.arc_within, table_laws.proofs.Tallies.tally_low}
 use Rattle.gadget_laws.proofs.{Box.own_box, Box.arcwise_length, Box.box_deviation, Arcs.sound}
-use Rattle.qm_cert.specs.Faults.{first_of_two, or_else, below_verdict, unequal_verdict, list_verdict, compared_verdict}
+use Rattle.qm_cert.specs.Faults.{or_else, unequal_verdict, list_verdict, compared_verdict}
 use Rattle.qm_cert.specs.Sides.{end_put, arc_put, side_count, AreSides}
-use Rattle.sum_laws.proofs.Sums.{count_below_le, count_below_ones, count_below_times, count_total, count_below_total}
-use Rattle.sum_laws.proofs.Sums.{total_same, total_below_same}
-use Rattle.sum_laws.proofs.Tests.{same_test}
-use Rattle.table_laws.proofs.Tallies.{tally_low, tally_more}
+use Rattle.sum_laws.proofs.{Sums.count_below_le, Sums.count_below_ones, Sums.count_below_times, Sums.count_total}
+use Rattle.sum_laws.proofs.{Sums.count_below_total, Sums.total_same, Sums.total_below_same, Tests.same_test}
 use Rattle.{qm_gadget.proofs.OfList.arcwise_at, def_math.specs.Tables.IsRaised, def_math.specs.Searches.least}
 
 -- The verdict on the sum, by its three numbers.
@@ -33,8 +30,7 @@ checked far sum cost = if int_eq sum cost then Accepted far else Sums sum cost
 
 pub checked_same : (far near sum other cost price : ℤ) → far ≡ near → sum ≡ other → cost ≡ price → checked far sum cost
     ≡ checked near other price
-checked_same far near sum other cost price e f g = ap (λ z. checked z sum cost) e
-    ∙ (ap (λ z. checked near z cost) f ∙ ap (λ z. checked near other z) g)
+checked_same far near sum other cost price e f g = search rules
 
 -- The cost of the units that are on is the deviation less that of the lows.
 pub cost_is : (net : Network) (xs : List ℕ) → length xs ≡ length net.arcs
@@ -49,10 +45,6 @@ by_list net c = grind arith
 -- No fault of the list: it has one length for each arc, and is admissible.
 none_of : (f : ℕ → CertVerdict) (o : Option ℕ) → option_map f o ≡ None → o ≡ None
 none_of f o e = grind (arith)
-
-none_of_two : (a b : Option CertVerdict) → first_of_two a b ≡ None → (a ≡ None) × (b ≡ None)
-none_of_two None b e = (refl, e)
-none_of_two (Some v) b e = absurd cc
 
 admissible : (net : Network) (xs : List ℕ) → IsWithinBounds net → below_fault net xs ≡ None
     → unequal_fault net xs ≡ None → IsAdmissible net (entries xs)
@@ -69,30 +61,12 @@ admissible net xs bounds below unequal = record {
 
 pub no_fault : (net : Network) (xs : List ℕ) → IsWithinBounds net → list_verdict net xs ≡ None
     → (length xs ≡ length net.arcs) × IsAdmissible net (entries xs)
-no_fault net xs bounds none = by_count (length xs == length net.arcs) refl none
-  where
-    by_count : (b : Bool) → (length xs == length net.arcs) ≡ b
-        → cond (not b) (Some (Count (length net.arcs) (length xs)))
-        (first_of_two (below_verdict net xs) (unequal_verdict net xs)) ≡ None → (length xs ≡ length net.arcs)
-        × IsAdmissible net (entries xs)
-    by_count false e f = absurd cc
-    by_count true e f =
-        let (below, unequal) = none_of_two _ _ f in (
-          eqb-true (length xs) (length net.arcs) e,
-          admissible net xs bounds (none_of _ (below_fault net xs) below) (none_of _ (unequal_fault net xs) unequal),
-        )
+no_fault net xs bounds none = search (rules, admissible)
 
 -- An admissible list has no fault.
 admissible_none : (net : Network) (xs : List ℕ) → length xs ≡ length net.arcs → IsAdmissible net (entries xs)
     → list_verdict net xs ≡ None
-admissible_none net xs count a =
-    let below = least_none (λ j. nat_lt (slice_index xs j) (arc_at net.arcs j).floor) (length net.arcs)
-    (λ k l. le-ltb (slice_index xs k) (arc_at net.arcs k).floor (omega (arith, ints, a.high k l))) in
-    let unequal = least_none
-    (λ u. not (int_eq (side_sum net.arcs (entries xs) true u) (side_sum net.arcs (entries xs) false u))) net.nodes
-    (λ v l. ap not ((Decides-int_eq (side_sum net.arcs (entries xs) true v)
-    (side_sum net.arcs (entries xs) false v)).1 (a.balanced v))) in
-    rw (eq-eqb (length xs) (length net.arcs) count, below, unequal) refl
+admissible_none net xs count a = search (rules, least_none)
 
 -- The verdict yes comes exactly where the certificate is accepted.
 pub yes_accepted : (net : Network) (c : Certificate) (d : ℤ) → IsWithinBounds net → cert_verdict net c ≡ Accepted d
@@ -165,14 +139,7 @@ faultless net c (Err e) none exact = tt
 -- The deviation of an arc of a network within bounds.
 arc_small : (net : Network) (k y : ℕ) → IsWithinBounds net → k < length net.arcs → y ≤ 10 ^ 12
     → arc_deviation net (arc_at net.arcs k) (pos y) ≤ 10 ^ 19
-arc_small net k y bounds l short =
-    let a = arc_at net.arcs k in
-    let within = arc_within bounds l in
-    let scaled : net.q * y ≤ 1000 * 10 ^ 12 = mul-le-mul bounds.q_high short in
-    let wanted : net.p * a.old ≤ 1000 * 4000000000 = mul-le-mul bounds.p_high within.old in
-    let apart : unsigned_abs (pos net.q *ℤ pos y -ℤ pos (net.p * a.old)) ≤ 2 * 10 ^ 15 =
-    omega (arith, ints, scaled, wanted) in
-    omega (arith, mul-le-mul within.weight_high apart)
+arc_small net k y bounds l short = search (rules, arc_within)
 
 -- The deviation of a list of lengths.
 pub deviation_small : (net : Network) (xs : List ℕ) → IsWithinBounds net → AreNetLengths net.arcs xs
@@ -188,12 +155,7 @@ deviation_small net xs bounds are = omega (
 
 -- The lows are lengths too.
 pub lows_lengths : (net : Network) (xs : List ℕ) → AreNetLengths net.arcs xs → AreNetLengths net.arcs (lows net 1 xs)
-lows_lengths net xs are = record {
-  count = arcwise_length (low 1) net.arcs xs are.count;
-  small = λ k l.
-      let lk : k < length net.arcs = omega (arith, arcwise_length (low 1) net.arcs xs are.count) in
-      omega (arith, arcwise_at (low 1) net.arcs xs k are.count lk, are.small k (omega (arith, are.count, lk)));
-}
+lows_lengths net xs are = search (rules, arcwise_length, arcwise_at)
 
 -- Sums on one side of the nodes, one arc at a time.
 
@@ -207,12 +169,7 @@ arc_low plus a x v = grind (arith, end_low plus a.left x v)
 side_low : (arcs : List Arc) (xs : List ℕ) (plus : Bool) (k v : ℕ) → ((i : ℕ) → i < k → slice_index xs i ≤ 10 ^ 12)
     → side_count arcs xs plus k v ≤ k * (2 * 10 ^ 12)
 side_low arcs xs plus zero v short = omega arith
-side_low arcs xs plus (suc k) v short = omega (
-  arith,
-  side_low arcs xs plus k v (λ i l. short i (omega arith)),
-  short k (omega arith),
-  arc_low plus (arc_at arcs k) (slice_index xs k) v,
-)
+side_low arcs xs plus (suc k) v short = search (rules, side_low arcs xs plus k v (λ i l. short i (omega arith)))
 
 -- The sums of the first arcs are small.
 pub sides_low : (nodes : ℕ) (arcs : List Arc) (xs : List ℕ) (plus : Bool) (k : ℕ) (sums : List ℕ)
@@ -225,9 +182,7 @@ sides_low nodes arcs xs plus k sums lengths le are = tally_low (side_count arcs 
 pub sides_more : (nodes : ℕ) (arcs : List Arc) (xs : List ℕ) (plus : Bool) (k : ℕ) (old new : List ℕ)
     → AreSides nodes arcs xs plus k old → IsRaised (arc_put plus (arc_at arcs k) (slice_index xs k)) old new
     → AreSides nodes arcs xs plus (k + 1) new
-sides_more nodes arcs xs plus k old new are raised =
-    tally_more (side_count arcs xs plus k) (side_count arcs xs plus (k + 1))
-    (arc_put plus (arc_at arcs k) (slice_index xs k)) nodes old new (λ v l. rw (add-one k) refl) are raised
+sides_more nodes arcs xs plus k old new are raised = search rules
 
 -- Such a sum as a whole number.
 pub side_is : (arcs : List Arc) (xs : List ℕ) (plus : Bool) (v : ℕ) → pos (side_count arcs xs plus (length arcs) v)

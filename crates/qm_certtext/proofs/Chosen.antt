@@ -1,18 +1,18 @@
 -- The lists of one line more, and those before and behind the first `#f 3`.
-use Rattle.std.proofs.Common.{Bool, List, None, OnOk, Option, Result, Some, append-nil, arith, false, is_some, ℕ, Err}
-use Rattle.std.proofs.Common.{Ok, drop, inl, inr, not, refl, suc, sym, take, true, ◌&&◌, ◌++◌, ◌+◌, ◌∙◌, [], ap, ◌∷◌}
-use Rattle.std.proofs.Common.{◌≡◌, eqb, length, map, ◌<◌, append_assoc, ap₂}
-use Rattle.std.proofs.lemmas.Bool.{cases_Bool, false≢true, or_parts, ne_eqb, not-true, and_from, and_parts, or_from}
+use Rattle.std.proofs.Common.{rules, Bool, List, None, OnOk, Option, Result, Some, append-nil, arith, false, is_some, ℕ}
+use Rattle.std.proofs.Common.{inl, inr, not, refl, sym, true, ◌&&◌, ◌++◌, ◌+◌, ◌∙◌, [], ap, ◌∷◌, ◌≡◌, length, map, ◌<◌}
+use Rattle.std.proofs.Common.{append_assoc, ap₂, ◌||◌}
+use Rattle.std.proofs.lemmas.Bool.{cases_Bool, false≢true, or_parts, and_from, and_parts, or_from}
 use Rattle.std.proofs.lemmas.List.Folds.{list_any-append, list_all-append, list_all-map}
 use Rattle.std.proofs.lemmas.List.Concat.{flat_map-append}
-use Rattle.std.specs.List.{after_first, before_first, flat_map, list_any, position_or_len, list_all}
+use Rattle.std.specs.List.{after_first, before_first, flat_map, list_any, list_all}
 use Rattle.def_certtext.specs.Reading.{is_third, length_in, set_in, set_up_in, vertex_in, vertex_up_in, certificates_by}
 use Rattle.def_certtext.specs.Reading.{lists_in, certificates_in, may_stand}
 use Rattle.def_certtext.specs.declared.certs.Rising.TheVariants.{Never, Rounds, Third}
 use Rattle.def_certtext.specs.CertLines.{Certificates, alone, lists_of, risen, risen_by, Lists, raised, said_by}
 use Rattle.def_certtext.specs.declared.CertLine.TheVariants.{Rise as rise_line, Floor, Length}
 use Rattle.def_certtext.specs.{declared.certs.Rising.Rising, declared.CertLine.CertLine, declared.certs.Round.Round}
-use Rattle.def_certtext.specs.{Rounds.parts_of, Rounds.Part, Rounds.put_line, Rounds.put_rise, declared.certs.Rise.Rise}
+use Rattle.def_certtext.specs.{Rounds.parts_of, Rounds.put_line, Rounds.put_rise, declared.certs.Rise.Rise}
 use Rattle.def_certtext.specs.{Laws.AreWritable, Laws.certificate_lines, Laws.chosen_lines}
 use Rattle.qm_certtext.specs.Parts.{HoldBoth, TakesLine, Holds, begins_plain, is_rise, EndsRound, HoldRounds}
 use Rattle.qm_certtext.specs.Parts.{lists_in_parts}
@@ -21,52 +21,34 @@ use Rattle.qm_certtext.proofs.Telling.{lists_back, no_third, no_rise}
 
 -- Before and behind the first that passes, where it is not the front.
 module _ {X : Type 0} (p : X → Bool) where
-  before_step : (x : X) (xs : List X) → p x ≡ false → before_first p (x ∷ xs) ≡ x ∷ before_first p xs
-  before_step x xs other =
-      let next : 1 + position_or_len p xs ≡ suc (position_or_len p xs) = omega arith in
-      rw other (ap (λ (k : ℕ). take k (x ∷ xs)) next)
-
-  after_step : (x : X) (xs : List X) → p x ≡ false → after_first p (x ∷ xs) ≡ after_first p xs
-  after_step x xs other =
-      let next : 1 + position_or_len p xs + 1 ≡ suc (position_or_len p xs + 1) = omega arith in
-      rw other (ap (λ (k : ℕ). drop k (x ∷ xs)) next)
-
-  before_here : (x : X) (xs : List X) → p x ≡ true → before_first p (x ∷ xs) ≡ []
-  before_here x xs is = rw is refl
-
-  after_here : (x : X) (xs : List X) → p x ≡ true → after_first p (x ∷ xs) ≡ xs
-  after_here x xs is = rw is refl
+  split_behind : (x : X) (xs : List X) → p x ≡ false → (before_first p (x ∷ xs) ≡ x ∷ before_first p xs)
+      × (after_first p (x ∷ xs) ≡ after_first p xs)
+  split_behind x xs other = search rules
 
   -- Behind one that passes more may stand.
-  pub before_there : (xs ys : List X) → list_any p xs ≡ true → before_first p (xs ++ ys) ≡ before_first p xs
-  before_there [] ys some = absurd (false≢true some)
-  before_there (x ∷ xs) ys some = elim (cases_Bool (p x)) [
-    | inl is ↦ before_here x (xs ++ ys) is ∙ sym (before_here x xs is)
-    | inr other ↦ before_step x (xs ++ ys) other
-        ∙ ap (λ (zs : List X). x ∷ zs) (before_there xs ys (rw other at some)) ∙ sym (before_step x xs other)
-  ]
-
-  pub after_there : (xs ys : List X) → list_any p xs ≡ true → after_first p (xs ++ ys) ≡ after_first p xs ++ ys
-  after_there [] ys some = absurd (false≢true some)
-  after_there (x ∷ xs) ys some = elim (cases_Bool (p x)) [
-    | inl is ↦ rw (after_here x (xs ++ ys) is, after_here x xs is) refl
-    | inr other ↦ after_step x (xs ++ ys) other ∙ after_there xs ys (rw other at some)
-        ∙ ap (λ (zs : List X). zs ++ ys) (sym (after_step x xs other))
+  split_there : (xs ys : List X) → list_any p xs ≡ true → (before_first p (xs ++ ys) ≡ before_first p xs)
+      × (after_first p (xs ++ ys) ≡ after_first p xs ++ ys)
+  split_there [] ys some = absurd (false≢true some)
+  split_there (x ∷ xs) ys some = elim (cases_Bool (p x)) [
+    | inl is ↦ rw is (refl, refl)
+    | inr other ↦
+        let rest = split_there xs ys (rw other at some) in
+        let (one, two) = split_behind x (xs ++ ys) other in
+        let (short, back) = split_behind x xs other in (
+          one ∙ ap (λ (zs : List X). x ∷ zs) rest.0 ∙ sym short,
+          two ∙ rest.1 ∙ ap (λ (zs : List X). zs ++ ys) (sym back),
+        )
   ]
 
   -- Where none passes before it.
-  pub before_first_one : (xs : List X) (y : X) (ys : List X) → list_any p xs ≡ false → p y ≡ true
-      → before_first p (xs ++ y ∷ ys) ≡ xs
-  before_first_one [] y ys none is = before_here y ys is
-  before_first_one (x ∷ xs) y ys none is =
+  split_one : (xs : List X) (y : X) (ys : List X) → list_any p xs ≡ false → p y ≡ true
+      → (before_first p (xs ++ y ∷ ys) ≡ xs) × (after_first p (xs ++ y ∷ ys) ≡ ys)
+  split_one [] y ys none is = rw is (refl, refl)
+  split_one (x ∷ xs) y ys none is =
       let parts = or_parts (p x) _ none in
-      before_step x (xs ++ y ∷ ys) parts.0 ∙ ap (λ (zs : List X). x ∷ zs) (before_first_one xs y ys parts.1 is)
-
-  pub after_first_one : (xs : List X) (y : X) (ys : List X) → list_any p xs ≡ false → p y ≡ true
-      → after_first p (xs ++ y ∷ ys) ≡ ys
-  after_first_one [] y ys none is = after_here y ys is
-  after_first_one (x ∷ xs) y ys none is =
-      let parts = or_parts (p x) _ none in after_step x (xs ++ y ∷ ys) parts.0 ∙ after_first_one xs y ys parts.1 is
+      let rest = split_one xs y ys parts.1 is in
+      let (one, two) = split_behind x (xs ++ y ∷ ys) parts.0 in
+      (one ∙ ap (λ (zs : List X). x ∷ zs) rest.0, two ∙ rest.1)
 
 -- One line more.
 more : {Y : Type 0} (f : CertLine → List Y) (old new : List Y) (said : List CertLine) (line : CertLine) → old
@@ -84,13 +66,7 @@ pub record Adds (old new : Parts) (line : CertLine) : Type 0 where
 -- So the lists are those of one line more.
 pub holds_more : (old new : Parts) (said : List CertLine) (line : CertLine) → Adds old new line → Holds old said
     → Holds new (said ++ line ∷ [])
-holds_more old new said line adds holds = record {
-  lengths = more length_in _ _ said line holds.lengths adds.lengths;
-  vertices = more vertex_in _ _ said line holds.vertices adds.vertices;
-  vertex_ups = more vertex_up_in _ _ said line holds.vertex_ups adds.vertex_ups;
-  sets = more set_in _ _ said line holds.sets adds.sets;
-  set_ups = more set_up_in _ _ said line holds.set_ups adds.set_ups;
-}
+holds_more old new said line adds holds = search (rules, more)
 
 -- Parts with nothing in them hold the lists of no line.
 pub holds_none : {parts : Parts} → parts.lengths.items ≡ [] → (parts.vertices.items ≡ [])
@@ -104,38 +80,30 @@ TakesBoth old new line =
 
 pub takes_both : (rising : Rising) (old new : Found) (line : CertLine) → (rising ≡ Rounds → ⊥)
     → TakesBoth old new line → TakesLine rising old new line
-takes_both Never old new line other takes = takes
-takes_both Third old new line other takes = takes
-takes_both Rounds old new line other takes = absurd (other refl)
+takes_both rising old new h1 h2 = search rules
 
 -- The lines before the first `#f 3` stay, and the next are those of another certificate.
 pub takes_third : (old new : Found) (line : CertLine) → old.first ≡ None → is_third line ≡ true
     → new.first ≡ Some old.last → Holds new.last [] → TakesBoth old new line
-takes_third old new line none third first empty said holds =
-    let before : (list_any is_third said ≡ false) × Holds old.last said = rw none at holds in
-    rw first (
-      list_any-append is_third said (line ∷ []) ∙ rw (before.0, third) refl,
-      rw (before_first_one is_third said line [] before.0 third) before.1,
-      rw (after_first_one is_third said line [] before.0 third) empty,
-    )
+takes_third old new line none third first empty said holds = search (rules, split_one, list_any-append)
 
 -- Any other line is one of the last certificate.
 pub takes_other : (old new : Found) (line : CertLine) → (old.first ≡ None → is_third line ≡ false)
     → new.first ≡ old.first → Adds old.last new.last line → TakesBoth old new line
 takes_other old new line other first adds said holds = by_first old.first refl holds
   where
+    longer : list_any is_third (said ++ line ∷ []) ≡ (list_any is_third said || (is_third line || false))
+    longer = list_any-append is_third said (line ∷ [])
+
     by_first : (o : Option Parts) → old.first ≡ o → HoldBoth o old.last said
         → HoldBoth new.first new.last (said ++ line ∷ [])
-    by_first None is none = rw (first ∙ is) (
-      list_any-append is_third said (line ∷ []) ∙ rw (none.0, other is) refl,
-      holds_more old.last new.last said line adds none.1,
-    )
-    by_first (Some prefix) is both = rw (first ∙ is) (
-      list_any-append is_third said (line ∷ []) ∙ rw both.0 refl,
-      rw (before_there is_third said (line ∷ []) both.0) both.1,
-      rw (after_there is_third said (line ∷ []) both.0)
-          (holds_more old.last new.last (after_first is_third said) line adds both.2),
-    )
+    by_first None is none = rw (first ∙ is) (longer ∙ rw (none.0, other is) refl, holds_more _ _ said line adds none.1)
+    by_first (Some prefix) is both = let split = split_there is_third said (line ∷ []) both.0 in
+        rw (first ∙ is) (
+          longer ∙ rw both.0 refl,
+          rw split.0 both.1,
+          rw split.1 (holds_more _ _ (after_first is_third said) line adds both.2),
+        )
 
 -- Whether a line starts the certificate for floor 3.
 pub starts : (first : Option Parts) (line : CertLine) → (not (is_some first) && is_third line) ≡ true → (first ≡ None)
@@ -149,21 +117,15 @@ starts_not None line is none = is
 starts_not (Some prefix) line is none = absurd cc
 
 -- Where memory was found for the line.
-pub added_ok : {T E : Type 0} {P : Type 0} (r : Result T E) (old new : Parts) (line : CertLine)
+pub added_ok : {T E P : Type 0} (r : Result T E) (old new : Parts) (line : CertLine)
     → OnOk r (new.lengths.items ≡ old.lengths.items ++ length_in line)
     → OnOk r (new.vertices.items ≡ old.vertices.items ++ vertex_in line)
     → OnOk r (new.vertex_ups.items ≡ old.vertex_ups.items ++ vertex_up_in line)
     → OnOk r (new.sets.items ≡ old.sets.items ++ set_in line)
     → OnOk r (new.set_ups.items ≡ old.set_ups.items ++ set_up_in line) → (Adds old new line → P) → OnOk r P
-added_ok (Ok x) old new line a b c d e takes =
-    takes (record { lengths = a; vertices = b; vertex_ups = c; sets = d; set_ups = e })
-added_ok (Err e) old new line a b c d f takes = tt
+added_ok r h1 h2 h3 h4 h5 h6 = search rules
 
 -- The certificates of the lines of rounds.
-
--- A list with a first element is not empty.
-not_none : {X : Type 0} (x : X) (xs : List X) → eqb (length (x ∷ xs)) 0 ≡ false
-not_none x xs = ne_eqb (length (x ∷ xs)) 0 (λ none. absurd (omega arith))
 
 -- A line that raises no floor joins the part behind it.
 joins : (line : CertLine) (said : List CertLine) → is_rise line ≡ false
@@ -174,14 +136,7 @@ joins _ said plain = refl
 -- A rise in front of such lines is a part of its own.
 alone_in_front : (rise : Rise) (more : List CertLine) → begins_plain more ≡ true
     → put_rise rise (parts_of more) ≡ record { said = []; rises = rise ∷ [] } ∷ parts_of more
-alone_in_front rise [] plain = refl
-alone_in_front rise (line ∷ more) plain =
-    rw (joins line more (not-true (is_rise line) plain)) (by_parts (parts_of more))
-  where
-    by_parts : (parts : List Part) → put_rise rise (put_line line parts)
-        ≡ record { said = []; rises = rise ∷ [] } ∷ put_line line parts
-    by_parts [] = refl
-    by_parts (part ∷ parts) = rw (not_none line part.said) refl
+alone_in_front rise more h1 = search rules
 
 -- So are rises one behind another.
 rises_part : (rise : Rise) (rises : List Rise) (more : List CertLine) → begins_plain more ≡ true
@@ -204,8 +159,7 @@ pub round_first : (lines : List CertLine) (rises : List Rise) (more : List CertL
     → 0 < length rises → begins_plain more ≡ true → certificates_by (parts_of (lines ++ (map rise_line rises ++ more)))
     ≡ risen (lists_in lines) rises (certificates_by (parts_of more))
 round_first lines [] more none some plain = absurd (omega arith)
-round_first lines (rise ∷ rises) more none some plain =
-    ap certificates_by (whole_part lines rise rises more none plain) ∙ rw (not_none rise rises) refl
+round_first lines (rise ∷ rises) more none some plain = search (rules, whole_part)
 
 -- Lines without a rise are one part.
 last_part : (line : CertLine) (lines : List CertLine) → list_any is_rise (line ∷ lines) ≡ false
@@ -225,8 +179,7 @@ last_alone (line ∷ lines) none = ap certificates_by (last_part line lines none
 pub risen_more : (rounds : List Round) (round : Round) (after : Certificates)
     → risen_by (rounds ++ round ∷ []) after ≡ risen_by rounds (risen (lists_of round.cert) round.rises.items after)
 risen_more [] round after = refl
-risen_more (first ∷ rounds) round after =
-    ap (λ (c : Certificates). risen (lists_of first.cert) first.rises.items c) (risen_more rounds round after)
+risen_more (first ∷ rounds) round after = search (rules, risen_more rounds round after)
 
 -- The lines of certificates say these certificates.
 
@@ -250,9 +203,7 @@ plain_first (risen first rises after) able = lengths_first first.x _ _ _ able.2
 rounds_back : (front : List CertLine) → list_any is_rise front ≡ false
     → ((said : List CertLine) → lists_in (front ++ said) ≡ lists_in said) → (certificates : Certificates)
     → AreWritable Rounds certificates → certificates_by (parts_of (front ++ chosen_lines certificates)) ≡ certificates
-rounds_back front plain adds (alone cert) able =
-    last_alone (front ++ said_by cert) (list_any-append is_rise front (said_by cert) ∙ or_from _ _ plain (no_rise cert))
-    ∙ ap (λ (l : Lists). alone l) (adds (said_by cert) ∙ lists_back cert able.ups)
+rounds_back front plain adds (alone cert) able = search (rules, last_alone, list_any-append, no_rise, lists_back)
 rounds_back front plain adds (raised first cert) able = absurd (cc able.0)
 rounds_back front plain adds (risen first rises after) able =
     let lists = adds (said_by first) ∙ lists_back first able.1.ups in
@@ -269,23 +220,13 @@ pub chosen_certs : (rising : Rising) (certificates : Certificates) → AreWritab
     → certificates ≡ certificates_in rising (certificate_lines rising certificates)
 chosen_certs Never (alone cert) able = sym (rw (no_third cert) (ap (λ (l : Lists). alone l) (lists_back cert able.ups)))
 chosen_certs Third (alone cert) able = sym (rw (no_third cert) (ap (λ (l : Lists). alone l) (lists_back cert able.ups)))
-chosen_certs Third (raised first cert) able =
-    let prefix = Floor 1 ∷ said_by first in
-    let some : list_any is_third (prefix ++ Floor 3 ∷ said_by cert) ≡ true =
-    list_any-append is_third prefix (Floor 3 ∷ said_by cert) ∙ rw (no_third first) refl in
-    let before = ap lists_in (before_first_one is_third prefix (Floor 3) (said_by cert) (no_third first) refl)
-    ∙ lists_back first able.1.ups in
-    let behind = ap lists_in (after_first_one is_third prefix (Floor 3) (said_by cert) (no_third first) refl)
-    ∙ lists_back cert able.2.ups in
-    sym (rw some (λ i. raised (before i) (behind i)))
+chosen_certs Third (raised first cert) able = search (rules, list_any-append, no_third, split_one, lists_back)
 chosen_certs Rounds certificates able = sym (rounds_back (Floor 1 ∷ []) refl (λ said. refl) certificates able)
 chosen_certs _ _ able = absurd (cc able.0)
 
 -- What may stand where no floor rises may stand anywhere.
 may_more : (rising : Rising) (line : CertLine) → may_stand Never line ≡ true → may_stand rising line ≡ true
-may_more rising (Floor f) may = absurd (false≢true may)
-may_more rising (rise_line r) may = absurd (false≢true may)
-may_more rising _ may = may
+may_more rising line h1 = search rules
 
 all_more : (rising : Rising) (said : List CertLine) → list_all (may_stand Never) said ≡ true
     → list_all (may_stand rising) said ≡ true
@@ -318,30 +259,13 @@ chosen_allowed _ _ able = absurd (cc able.0)
 
 -- The lists of lines are those of the parts that hold them.
 held : (parts : Parts) (lines : List CertLine) → Holds parts lines → lists_in lines ≡ lists_in_parts parts
-held parts lines holds = λ i. record {
-  x = sym holds.lengths i;
-  y = sym holds.vertices i;
-  z = sym holds.sets i;
-  up = sym holds.vertex_ups i ++ sym holds.set_ups i;
-}
+held parts lines holds = search rules
 
 -- Where some rose, the round is one more, and what is behind begins another certificate.
 pub ends_some : (old new : Found) (round : Round) → 0 < length old.rises.items
     → new.rounds.items ≡ old.rounds.items ++ round ∷ [] → new.rises.items ≡ [] → Holds new.last []
     → lists_of round.cert ≡ lists_in_parts old.last → round.rises.items ≡ old.rises.items → EndsRound old new
-ends_some old new round some rounds none empty cert rises said hold = record {
-  lines = [];
-  plain = refl;
-  holds = empty;
-  none = none;
-  same = λ more plain.
-      let lists : lists_in hold.lines ≡ lists_of round.cert = held old.last hold.lines hold.holds ∙ sym cert in
-      hold.same more
-      ∙ ap (risen_by old.rounds.items) (round_first hold.lines old.rises.items more hold.plain some plain
-      ∙ (λ i. risen (lists i) (sym rises i) (certificates_by (parts_of more))))
-      ∙ sym (risen_more old.rounds.items round (certificates_by (parts_of more)))
-      ∙ ap (λ (rs : List Round). risen_by rs (certificates_by (parts_of more))) (sym rounds);
-}
+ends_some old new round some rounds none empty cert rises said hold = search (rules, round_first, risen_more)
 
 -- A line that is none of a rise raises no floor.
 pub no_rise_line : (line : CertLine) → ((rise : Rise) → line ≡ rise_line rise → ⊥) → is_rise line ≡ false

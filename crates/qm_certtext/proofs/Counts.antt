@@ -1,52 +1,32 @@
 -- A line of one kind is none of another.
-use Rattle.std.proofs.Common.{arith, drop, eqb, get_or, inl, inr, leb, ltb, pos, true, ℕ, ◌+◌, ◌<◌, ◌^◌, ◌∷◌, ◌≡◌, ap}
+use Rattle.std.proofs.Common.{rules, arith, drop, eqb, get_or, inl, inr, ltb, pos, true, ℕ, ◌+◌, ◌<◌, ◌^◌, ◌∷◌, ◌≡◌, ap}
 use Rattle.std.proofs.Common.{◌≤◌, Bool, List, None, Option, Some, cond, false, length, negsuc, ap₂, map, min, not}
 use Rattle.std.proofs.Common.{refl, suc, sym, take, zero, ◌&&◌, ◌++◌, [], ℤ, ◌-◌, ◌∙◌}
-use Rattle.std.proofs.lemmas.Bool.{and_from, and_parts, eqb-true, false≢true, leb-true, lt-ltb, ltb-true, or_cases}
-use Rattle.std.proofs.lemmas.Bool.{and_cases, and_right, cases_Bool, not_from_false, true≢false, eq-eqb, eqb-false}
-use Rattle.std.proofs.lemmas.Bool.{le-leb, ltb-false, not-true, ne_eqb}
+use Rattle.std.proofs.lemmas.Bool.{and_from, and_parts, eqb-true, false≢true, lt-ltb, and_cases, and_right, cases_Bool}
+use Rattle.std.proofs.lemmas.Bool.{true≢false, eq-eqb, eqb-false, le-leb, ltb-false, not-true, ne_eqb}
 use Rattle.std.proofs.lemmas.Fmt.{decimal-digits_value, decimal_injective, decimal_nonempty, first_decimal}
 use Rattle.std.proofs.lemmas.Str.Parse.{IsDigitsTest, IsNumeralModel, numerals_by_fold}
 use Rattle.std.proofs.lemmas.List.{drop_at, take-append-drop, take_at}
 use Rattle.std.specs.{Prelude.decimal, Prelude.unsigned_abs, Int.Digits.number_from_digits_after, List.position_or_len}
 use Rattle.std.specs.{List.list_all, Char.is_ascii_digit, Fmt.digits, Fmt.signed_decimal}
-use Rattle.def_certtext.specs.declared.certs.Rising.TheVariants.{Never, Rounds, Third}
-use Rattle.def_certtext.specs.{declared.certs.Rising.Rising, declared.CertLine.CertLine}
-use Rattle.def_certtext.specs.{declared.CertLine.TheVariants.Floor, Reading.is_small, Reading.may_name}
-use Rattle.def_certtext.specs.{Reading.may_tell, Reading.Says, declared.certs.Rise.Rise}
+use Rattle.def_certtext.specs.{declared.certs.Rising.TheVariants.Rounds, declared.certs.Rising.Rising, Reading.is_small}
+use Rattle.def_certtext.specs.{Reading.may_name, Reading.may_tell, declared.certs.Rise.Rise}
 use Rattle.def_text.specs.{Types.Word, Digits.is_number, Digits.number_written}
 use Rattle.qm_dec.proofs.ReadBack.{decimal_digits, decimal_number, digit_other, digits_fail, first_at, first_passes}
-use Rattle.qm_scan.proofs.Numbers.{digit_small, number_all}
+use Rattle.qm_scan.proofs.Numbers.{number_all}
 
 -- A floor that a line may name is small.
 pub floor_low : (rising : Rising) (floor : ℕ) → may_name rising floor ≡ true → floor ≤ 3
-floor_low Never floor may = absurd (false≢true may)
-floor_low Third floor may = elim (or_cases (eqb floor 1) (eqb floor 3) may) [
-  | inl one ↦ omega (arith, eqb-true floor 1 one)
-  | inr three ↦ omega (arith, eqb-true floor 3 three)
-]
-floor_low Rounds floor may = omega (arith, eqb-true floor 1 may)
+floor_low rising floor h1 = search rules
 
 -- So are the numbers of a rise, which a line may tell in rounds alone.
 pub rise_low : (rising : Rising) (rise : Rise) → may_tell rising rise ≡ true → (rise.arc < 2 ^ 32) × (rise.floor ≤ 3)
-rise_low Never rise may = absurd (false≢true may)
-rise_low Third rise may = absurd (false≢true may)
-rise_low Rounds rise may =
-    let parts = and_parts (ltb rise.arc (2 ^ 32)) (leb rise.floor 3) may in
-    (ltb-true _ _ parts.0, leb-true _ _ parts.1)
+rise_low rising rise h1 = search rules
 
 -- As a number and its `up` they are small.
 pub rise_small : (rising : Rising) (rise : Rise) → may_tell rising rise ≡ true
     → is_small (pos (rise.arc + 1)) rise.floor ≡ true
-rise_small rising rise may =
-    let low = rise_low rising rise may in
-    and_from _ _ (lt-ltb (rise.arc + 1) (10 ^ 18) (omega arith))
-    (lt-ltb rise.floor (2 ^ 32) (omega arith))
-
-pub not_floor : (rising : Rising) (rest : Word) → ((n : ℕ) → may_name rising n ≡ true → rest ≡ decimal n → ⊥)
-    → (said : CertLine) → Says rising (35 ∷ 102 ∷ 32 ∷ rest) said → ⊥
-not_floor rising rest none (Floor floor) says = none floor says.allowed (ap (drop 3) says.written)
-not_floor rising rest none _ says = omega (arith, ap (λ (w : Word). get_or w 1 0) says.written)
+rise_small rising rise may = search rules
 
 -- Numbers as certificate lines have them.
 
@@ -55,12 +35,7 @@ abbrev AreDigits : (word : Word) → Type 0
 AreDigits word = list_all is_ascii_digit word ≡ true
 
 digits_test : IsDigitsTest AreDigits
-digits_test = record {
-  empty = refl;
-  parts = λ c cs all. let both = and_parts (is_ascii_digit c) (list_all is_ascii_digit cs) all in
-      (digit_small c both.0, both.1);
-  more = λ c cs small all. and_from _ _ (and_from _ _ (le-leb 48 c small.0) (le-leb c 57 small.1)) all;
-}
+digits_test = search rules
 
 after : ℕ → Word → ℕ
 after n word = number_from_digits_after 10 n (map (λ d. d - 48) word)
@@ -83,8 +58,7 @@ written word is lead small =
 
 -- A printed number is a number, without a leading zero.
 pub decimal_is_number : (n : ℕ) → n < 2 ^ 64 → is_number (decimal n) ≡ true
-decimal_is_number n low = number_all (decimal n) ∙ and_from _ _ (not_from_false (eqb (length (decimal n)) 0)
-    (ne_eqb _ _ (λ e. absurd (omega (arith, decimal_nonempty n low))))) (decimal_digits n low)
+decimal_is_number n low = search (rules, number_all, decimal_nonempty, decimal_digits)
 
 pub no_lead : (n : ℕ) → n < 2 ^ 64 → (ltb 1 (length (decimal n)) && eqb (get_or (decimal n) 0 0) 48) ≡ false
 unfolding digits
@@ -95,10 +69,7 @@ no_lead (suc n) low = and_right (ltb 1 (length (decimal (suc n)))) _
 -- What is not read as a count is none.
 pub no_count : (word : Word) (greatest n : ℕ) (o : Option ℕ) → greatest < 10 ^ 18 → n ≤ greatest → word ≡ decimal n
     → o ≡ cond (is_number word) (Some (min (number_written word) (2 ^ 64 - 1))) None → (o ≡ Some n)
-no_count word greatest n o few low is read =
-    let number_is : is_number word ≡ true = ap is_number is ∙ decimal_is_number n (omega arith) in
-    let value : number_written word ≡ n = ap number_written is ∙ decimal_number n (omega arith) in
-    read ∙ rw number_is (ap (λ k. Some k) (omega arith))
+no_count word greatest n o few low is read = search (rules, decimal_is_number, decimal_number)
 
 -- A count is read where there is one.
 pub count_read : (word : Word) (greatest n : ℕ) → greatest < 10 ^ 18 → n ≤ greatest
@@ -112,22 +83,10 @@ count_read word greatest n few low lead read = elim (cases_Bool (is_number word)
   | inr isnt ↦ cc (rw isnt at read)
 ]
 
--- And nowhere else.
-pub count_other : (word : Word) (greatest m n : ℕ) → greatest < 10 ^ 18 → greatest < m → n ≤ greatest → word ≡ decimal n
-    → Some m ≡ cond (is_number word) (Some (min (number_written word) (2 ^ 64 - 1))) None → ⊥
-count_other word greatest m n few high low is read =
-    let same = no_count word greatest n (Some m) few low is read in
-    let equal : m ≡ n = cc in
-    omega arith
-
-pub count_none : (word : Word) (greatest n : ℕ) → greatest < 10 ^ 18 → n ≤ greatest → word ≡ decimal n
-    → None ≡ cond (is_number word) (Some (min (number_written word) (2 ^ 64 - 1))) None → ⊥
-count_none word greatest n few low is read = cc (no_count word greatest n None few low is read)
-
+-- And nowhere else: not where a zero leads.
 pub count_lead : (word : Word) (greatest n : ℕ) → greatest < 10 ^ 18 → n ≤ greatest
     → (ltb 1 (length word) && eqb (get_or word 0 0) 48) ≡ true → word ≡ decimal n → ⊥
-count_lead word greatest n few low lead is =
-    true≢false (sym lead ∙ ap (λ (w : Word). ltb 1 (length w) && eqb (get_or w 0 0) 48) is ∙ no_lead n (omega arith))
+count_lead word greatest n few low lead is = search (rules, no_lead)
 
 -- A number with a minus is below 0.
 no_minus : (n : ℕ) (digits : Word) → n < 2 ^ 64 → 45 ∷ digits ≡ decimal n → ⊥
@@ -144,16 +103,11 @@ negative_form (negsuc k) digits low is = (k, refl, ap (drop 1) is, low)
 -- Where the digits behind the minus are those of 0, or of none.
 pub not_negative : (z : ℤ) (digits : Word) (n : ℕ) → unsigned_abs z < 10 ^ 18 → n ≡ 0 → digits ≡ decimal n
     → 45 ∷ digits ≡ signed_decimal z → ⊥
-not_negative z digits n low none is same =
-    let form = negative_form z digits low same in
-    let equal : n ≡ suc form.0 = decimal_injective n (suc form.0) (omega arith) (omega arith) (sym is ∙ form.2) in
-    omega arith
+not_negative z digits n low none is same = search (rules, negative_form, decimal_injective)
 
 pub none_negative : (z : ℤ) (digits : Word) → ((n : ℕ) → n ≤ 10 ^ 18 - 1 → digits ≡ decimal n → ⊥)
     → unsigned_abs z < 10 ^ 18 → 45 ∷ digits ≡ signed_decimal z → ⊥
-none_negative z digits none low same =
-    let form = negative_form z digits low same in
-    none (suc form.0) (omega arith) form.2
+none_negative z digits none low same = search (rules, negative_form)
 
 -- A number has no space, and the first space stands behind it.
 abbrev no_space : (word : Word) → Bool
@@ -171,19 +125,13 @@ place_of_space text z up low is = ap (position_or_len (λ b. eqb b 32)) is ∙ f
     32 (decimal up) (signed_bare z low) refl
 
 pub small_parts : (z : ℤ) (up : ℕ) → is_small z up ≡ true → (unsigned_abs z < 10 ^ 18) × (up < 2 ^ 32)
-small_parts z up is =
-    let parts = and_parts (ltb (unsigned_abs z) (10 ^ 18)) (ltb up (2 ^ 32)) is in
-    (ltb-true _ _ parts.0, ltb-true _ _ parts.1)
+small_parts z up is = search rules
 
 module _ {text prefix behind : Word} {i : ℕ} (place : i ≡ position_or_len (λ b. eqb b 32) text)
     (before : prefix ≡ take i text) (back : behind ≡ drop i text) where
   parts_are : (z : ℤ) (up : ℕ) → unsigned_abs z < 10 ^ 18 → text ≡ signed_decimal z ++ 32 ∷ decimal up
       → (prefix ≡ signed_decimal z) × (behind ≡ 32 ∷ decimal up)
-  parts_are z up low is =
-      let at : i ≡ length (signed_decimal z) = place ∙ place_of_space text z up low is in (
-        before ∙ ap₂ (λ (k : ℕ) (t : Word). take k t) at is ∙ take_at (signed_decimal z) (32 ∷ decimal up) _ refl,
-        back ∙ ap₂ (λ (k : ℕ) (t : Word). drop k t) at is ∙ drop_at (signed_decimal z) (32 ∷ decimal up) _ refl,
-      )
+  parts_are z up low is = search (rules, place_of_space, take_at, drop_at)
 
   pub no_behind : length behind ≡ 0 → (z : ℤ) (up : ℕ) → is_small z up ≡ true
       → text ≡ signed_decimal z ++ 32 ∷ decimal up → ⊥
@@ -195,8 +143,7 @@ module _ {text prefix behind : Word} {i : ℕ} (place : i ≡ position_or_len (�
 
   pub no_up : (rest : Word) → rest ≡ drop 1 behind → ((n : ℕ) → n ≤ 2 ^ 32 - 1 → rest ≡ decimal n → ⊥)
       → (z : ℤ) (up : ℕ) → is_small z up ≡ true → text ≡ signed_decimal z ++ 32 ∷ decimal up → ⊥
-  no_up rest is none z up small same = none up (omega (arith, (small_parts z up small).1))
-      (is ∙ ap (drop 1) (parts_are z up (small_parts z up small).0 same).1)
+  no_up rest is none z up small same = search (rules, parts_are)
 
   pub both_read : (rest : Word) (z : ℤ) (up : ℕ) → 0 < length behind → rest ≡ drop 1 behind → unsigned_abs z < 10 ^ 18
       → prefix ≡ signed_decimal z → up ≤ 2 ^ 32 - 1 → rest ≡ decimal up
@@ -226,26 +173,9 @@ module _ {text prefix behind : Word} {i : ℕ} (place : i ≡ position_or_len (�
   rise_parts rise may is = parts_are (pos (rise.arc + 1)) rise.floor
       (small_parts (pos (rise.arc + 1)) rise.floor (rise_small Rounds rise may)).0 is
 
-  pub rise_no_behind : length behind ≡ 0 → (rise : Rise) → may_tell Rounds rise ≡ true
-      → text ≡ decimal (rise.arc + 1) ++ 32 ∷ decimal rise.floor → ⊥
-  rise_no_behind none rise may is = omega (arith, ap length (rise_parts rise may is).1)
-
-  pub rise_no_floor : (rest : Word) → rest ≡ drop 1 behind → ((n : ℕ) → n ≤ 3 → rest ≡ decimal n → ⊥) → (rise : Rise)
-      → may_tell Rounds rise ≡ true → text ≡ decimal (rise.arc + 1) ++ 32 ∷ decimal rise.floor → ⊥
-  rise_no_floor rest is none rise may same =
-      none rise.floor (rise_low Rounds rise may).1 (is ∙ ap (drop 1) (rise_parts rise may same).1)
-
-  pub rise_no_arc : ((n : ℕ) → n ≤ 2 ^ 32 → prefix ≡ decimal n → ⊥) → (rise : Rise) → may_tell Rounds rise ≡ true
-      → text ≡ decimal (rise.arc + 1) ++ 32 ∷ decimal rise.floor → ⊥
-  rise_no_arc none rise may same =
-      none (rise.arc + 1) (omega (arith, (rise_low Rounds rise may).0)) (rise_parts rise may same).0
-
   pub rise_not_zero : (n : ℕ) → n ≡ 0 → prefix ≡ decimal n → (rise : Rise) → may_tell Rounds rise ≡ true
       → text ≡ decimal (rise.arc + 1) ++ 32 ∷ decimal rise.floor → ⊥
-  rise_not_zero n none is rise may same =
-      let equal : n ≡ rise.arc + 1 = decimal_injective n (rise.arc + 1) (omega arith)
-      (omega (arith, (rise_low Rounds rise may).0)) (sym is ∙ (rise_parts rise may same).0) in
-      omega arith
+  rise_not_zero n none is rise may same = search (rules, decimal_injective, rise_parts)
 
   pub rise_read : (rest : Word) (number floor : ℕ) → 0 < length behind → rest ≡ drop 1 behind → 0 < number
       → number ≤ 2 ^ 32 → prefix ≡ decimal number → floor ≤ 3 → rest ≡ decimal floor

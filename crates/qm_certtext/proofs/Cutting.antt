@@ -1,65 +1,46 @@
 -- A head line is cut into its words in one way.
-use Rattle.std.proofs.Common.{Bool, MatchOption, None, Option, Some, append_assoc, arith, codes, false, get_or, length}
-use Rattle.std.proofs.Common.{[], ap₂, drop, eqb, inl, inr, not, refl, suc, sym, take, true, ◌++◌, ◌+◌, ◌∙◌, ◌∷◌, ◌≡◌}
-use Rattle.std.proofs.Common.{ℕ, ap, ◌≤◌}
+use Rattle.std.proofs.Common.{rules, Bool, MatchOption, None, Option, Some, append_assoc, arith, codes, false, get_or}
+use Rattle.std.proofs.Common.{length, [], drop, eqb, inl, inr, refl, sym, take, true, ◌++◌, ◌+◌, ◌∙◌, ◌∷◌, ◌≡◌, ℕ, ap}
+use Rattle.std.proofs.Common.{◌≤◌}
 use Rattle.std.proofs.lemmas.List.{append_cancel_left, drop_at, take-append-drop, take_at}
-use Rattle.std.proofs.lemmas.Bool.{and_from, cases_Bool, true≢false, false≢true}
-use Rattle.std.proofs.{lemmas.List.Folds.list_all-append, lemmas.Slice.Eq.bytes_eq-Decides}
-use Rattle.std.proofs.{lemmas.Fmt.decimal_injective}
+use Rattle.std.proofs.lemmas.Bool.{cases_Bool, false≢true}
+use Rattle.std.proofs.{lemmas.List.Folds.list_all-append, lemmas.Fmt.decimal_injective}
 use Rattle.std.specs.{Char.is_ascii_digit, List.list_all, List.position_or_len, Prelude.decimal, Str.bytes_eq}
 use Rattle.def_certtext.specs.Settings.{AreInRange, AreWordsOf, IsFloor, floor_text, scale_text, weight_text}
 use Rattle.def_certtext.specs.{declared.Asked.Asked, Reading.IsHead}
 use Rattle.qm_certtext.specs.Cuts.{IsCut, asked_line, is_bare}
 use Rattle.qm_dec.proofs.ReadBack.{decimal_digits, digit_other, digits_fail, first_at, above_is, below_is}
-use Rattle.def_flow.specs.{declared.net.Settings.Settings, declared.net.Weight.TheVariants.Length}
-use Rattle.def_flow.specs.{declared.net.Weight.TheVariants.Plain, declared.net.Weight.Weight}
+use Rattle.def_flow.specs.{declared.net.Settings.Settings, declared.net.Weight.Weight}
 use Rattle.def_text.specs.{Types.Word, Ratio.IsRatio}
 
 -- A text with and without this prefix.
 pub stripped : (prefix text rest : Word) → bytes_eq (take (length prefix) text) prefix ≡ true
     → rest ≡ drop (length prefix) text → text ≡ prefix ++ rest
-stripped prefix text rest is behind = sym (take-append-drop (length prefix) text) ∙ ap₂ ◌++◌
-    ((bytes_eq-Decides (take (length prefix) text) prefix).0 is) (sym behind)
+stripped prefix text rest is behind = search (rules, take-append-drop)
 
 pub not_stripped : (prefix text rest : Word) → bytes_eq (take (length prefix) text) prefix ≡ false
     → text ≡ prefix ++ rest → ⊥
-not_stripped prefix text rest other is = true≢false (sym ((bytes_eq-Decides (take (length prefix) text) prefix).1
-    (ap (take (length prefix)) is ∙ take_at prefix rest (length prefix) refl)) ∙ other)
+not_stripped prefix text rest other is = search (rules, take_at)
 
 -- What stands before the first space has none.
-prefix_bare : (text : Word) → is_bare (take (position_or_len (λ b. eqb b 32) text) text) ≡ true
+pub prefix_bare : (text : Word) → is_bare (take (position_or_len (λ b. eqb b 32) text) text) ≡ true
 prefix_bare [] = refl
 prefix_bare (x ∷ xs) =
     elim (cases_Bool (eqb x 32)) [ inl is ↦ rw is refl | inr other ↦ rw other (step (prefix_bare xs) other) ]
   where
     step : is_bare (take (position_or_len (λ b. eqb b 32) xs) xs) ≡ true → eqb x 32 ≡ false
         → is_bare (take (1 + position_or_len (λ b. eqb b 32) xs) (x ∷ xs)) ≡ true
-    step rest other =
-        let next : 1 + position_or_len (λ b. eqb b 32) xs ≡ suc (position_or_len (λ b. eqb b 32) xs) = omega arith in
-        rw next (and_from (not (eqb x 32)) _ (ap not other) rest)
+    step rest other = search rules
 
-pub word_bare : (text word : Word) (i : ℕ) → i ≡ position_or_len (λ b. eqb b 32) text → word ≡ take i text
-    → is_bare word ≡ true
-word_bare text word i place is = ap is_bare (is ∙ ap (λ (k : ℕ). take k text) place) ∙ prefix_bare text
-
--- A mark that begins with a space.
-mark_form : (mark : Word) → get_or mark 0 0 ≡ 32 → (rest : Word) × (mark ≡ 32 ∷ rest)
-mark_form [] is = absurd (omega arith)
-mark_form (x ∷ xs) is = (xs, ap (λ (b : ℕ). b ∷ xs) is)
-
--- The word before it is the prefix.
+-- The word before a mark that begins with a space is the prefix.
 place_of : (word mark rest : Word) → is_bare word ≡ true → get_or mark 0 0 ≡ 32
     → position_or_len (λ b. eqb b 32) (word ++ (mark ++ rest)) ≡ length word
-place_of word mark rest bare begins =
-    let form = mark_form mark begins in
-    ap (λ (m : Word). position_or_len (λ b. eqb b 32) (word ++ (m ++ rest))) form.1
-    ∙ first_at (λ b. eqb b 32) word 32 (form.0 ++ rest) bare refl
+place_of word [] rest bare begins = absurd (omega arith)
+place_of word (x ∷ xs) rest bare begins = rw begins (first_at (λ b. eqb b 32) word 32 (xs ++ rest) bare refl)
 
 pub behind_is : (text word mark rest behind : Word) (i : ℕ) → is_bare word ≡ true → get_or mark 0 0 ≡ 32 → text
     ≡ word ++ (mark ++ rest) → i ≡ position_or_len (λ b. eqb b 32) text → behind ≡ drop i text → behind ≡ mark ++ rest
-behind_is text word mark rest behind i bare begins is place back =
-    let at : i ≡ length word = place ∙ ap (position_or_len (λ b. eqb b 32)) is ∙ place_of word mark rest bare begins in
-    back ∙ ap₂ (λ (k : ℕ) (t : Word). drop k t) at is ∙ drop_at word (mark ++ rest) (length word) refl
+behind_is text word mark rest behind i bare begins is place back = search (rules, place_of, drop_at)
 
 -- So one word stands before the first mark.
 pub one_word : (a b x y mark : Word) → is_bare a ≡ true → is_bare b ≡ true → get_or mark 0 0 ≡ 32
@@ -99,9 +80,7 @@ digits_bare : (digits : Word) → list_all is_ascii_digit digits ≡ true → is
 digits_bare digits all = digits_fail (λ b. eqb b 32) (digit_other 32 (omega arith)) digits all
 
 scale_bare : (settings : Settings) (auto : Bool) → AreInRange settings auto → is_bare (scale_text settings) ≡ true
-scale_bare settings auto range = list_all-append (λ b. not (eqb b 32)) (decimal settings.p) (47 ∷ decimal settings.q)
-    ∙ and_from _ _ (digits_bare (decimal settings.p) (decimal_digits settings.p (omega arith)))
-    (digits_bare (decimal settings.q) (decimal_digits settings.q (omega arith)))
+scale_bare settings auto range = search (rules, list_all-append, digits_bare, decimal_digits)
 
 floor_bare : (floor : ℕ) (auto : Bool) → IsFloor floor auto → is_bare (floor_text floor auto) ≡ true
 floor_bare floor true may = refl
@@ -109,8 +88,7 @@ floor_bare floor false may = digits_bare (decimal floor) (decimal_digits floor (
 
 -- The parts of a head line, from the right.
 nested : (a b c d e f : Word) → a ++ b ++ c ++ d ++ e ++ f ≡ a ++ (b ++ (c ++ (d ++ (e ++ f))))
-nested a b c d e f = append_assoc (((a ++ b) ++ c) ++ d) e f ∙ append_assoc ((a ++ b) ++ c) d (e ++ f) ∙ append_assoc
-    (a ++ b) c (d ++ (e ++ f)) ∙ append_assoc a b (c ++ (d ++ (e ++ f)))
+nested a b c d e f = search (rules, append_assoc)
 
 pub asked_cut : (prefix line : Word) (settings : Settings) (auto : Bool) → AreInRange settings auto
     → line ≡ asked_line prefix settings auto
@@ -133,23 +111,13 @@ asked_words prefix line scale floor weight settings auto cut range is =
 words_asked : (prefix line scale floor weight : Word) (settings : Settings) (auto : Bool)
     → IsCut prefix line scale floor weight
     → AreWordsOf scale floor weight settings auto → line ≡ asked_line prefix settings auto
-words_asked prefix line scale floor weight settings auto cut words = cut.written ∙ (λ i. prefix
-    ++ (words.scaled i ++ (floor_mark ++ (words.bounded i ++ (weight_mark ++ words.weighed i))))) ∙ sym (nested prefix
-    (scale_text settings) floor_mark (floor_text settings.floor auto) weight_mark (weight_text settings.weight))
+words_asked prefix line scale floor weight settings auto cut words = search (rules, nested)
 
 -- Where the line was cut so far, it is cut whole, or it has no cut.
 pub cut_of : (prefix line rest scale more floor weight : Word) → line ≡ prefix ++ rest → is_bare scale ≡ true
     → rest ≡ scale ++ (floor_mark ++ more)
     → is_bare floor ≡ true → more ≡ floor ++ (weight_mark ++ weight) → IsCut prefix line scale floor weight
-cut_of prefix line rest scale more floor weight is scale_is first floor_is second = record {
-  written = is ∙ ap (λ (w : Word). prefix ++ w) (first ∙ ap (λ (w : Word). scale ++ (floor_mark ++ w)) second);
-  scale_bare = scale_is;
-  floor_bare = floor_is;
-}
-
-pub no_prefix : (prefix line : Word) → bytes_eq (take (length prefix) line) prefix ≡ false → (scale floor weight : Word)
-    → IsCut prefix line scale floor weight → ⊥
-no_prefix prefix line other scale floor weight cut = not_stripped prefix line _ other cut.written
+cut_of prefix line rest scale more floor weight is scale_is first floor_is second = search rules
 
 pub no_floor : (prefix line rest first more : Word) → line ≡ prefix ++ rest → is_bare first ≡ true
     → rest ≡ first ++ (floor_mark ++ more)
@@ -169,8 +137,7 @@ pub asked_read : (prefix line scale floor weight : Word) (o : Option Asked) → 
     (λ asked. AreInRange asked.settings asked.auto × (line ≡ asked_line prefix asked.settings asked.auto))
 asked_read prefix line scale floor weight None cut none =
     λ settings auto range is. none settings auto (asked_words prefix line scale floor weight settings auto cut range is)
-asked_read prefix line scale floor weight (Some asked) cut words =
-    (words.in_range, words_asked prefix line scale floor weight asked.settings asked.auto cut words)
+asked_read prefix line scale floor weight (Some asked) cut words = search (rules, words_asked)
 
 -- Behind the prefix of a head line they are those of the head line.
 pub head_read : (line : Word) (o : Option Asked)
@@ -187,17 +154,14 @@ head_read line (Some asked) read = record { written = read.1; in_range = read.0 
 
 as_ratio : (word : Word) (settings : Settings) (auto : Bool) → word ≡ scale_text settings → AreInRange settings auto
     → IsRatio word settings.p settings.q
-as_ratio word settings auto is range =
-    record { written = is; p_low = range.p_low; p_high = range.p_high; q_low = range.q_low; q_high = range.q_high }
+as_ratio word settings auto is range = search rules
 
-same_p : (word : Word) (p q r s : ℕ) → IsRatio word p q → IsRatio word r s → p ≡ r
-same_p word p q r s one two = decimal_injective p r (omega arith) (omega arith)
-    (sym (above_is word p q one) ∙ above_is word r s two)
-
-same_q : (word : Word) (p q r s : ℕ) → IsRatio word p q → IsRatio word r s → q ≡ s
-same_q word p q r s one two =
-    let both : 47 ∷ decimal q ≡ 47 ∷ decimal s = sym (below_is word p q one) ∙ below_is word r s two in
-    decimal_injective q s (omega arith) (omega arith) (ap (drop 1) both)
+same_ratio : (word : Word) (p q r s : ℕ) → IsRatio word p q → IsRatio word r s → (p ≡ r) × (q ≡ s)
+same_ratio word p q r s one two =
+    let below : 47 ∷ decimal q ≡ 47 ∷ decimal s = sym (below_is word p q one) ∙ below_is word r s two in (
+      decimal_injective p r (omega arith) (omega arith) (sym (above_is word p q one) ∙ above_is word r s two),
+      decimal_injective q s (omega arith) (omega arith) (ap (drop 1) below),
+    )
 
 -- A chosen floor is written with no digit.
 not_chosen : (floor : ℕ) → floor ≤ 3 → codes "auto" ≡ decimal floor → ⊥
@@ -205,24 +169,17 @@ not_chosen floor low is = false≢true (ap (list_all is_ascii_digit) is ∙ deci
 
 pub same_floor : (f g : ℕ) (a b : Bool) → IsFloor f a → IsFloor g b → floor_text f a ≡ floor_text g b
     → (f ≡ g) × (a ≡ b)
-same_floor f g true true one two is = (one.at_first refl ∙ sym (two.at_first refl), refl)
-same_floor f g true false one two is = absurd (not_chosen g two.high is)
-same_floor f g false true one two is = absurd (not_chosen f one.high (sym is))
-same_floor f g false false one two is = (decimal_injective f g (omega arith) (omega arith) is, refl)
+same_floor f g a b h1 h2 h3 = search (rules, not_chosen, decimal_injective)
 
 same_weight : (v w : Weight) → weight_text v ≡ weight_text w → v ≡ w
-same_weight Plain Plain is = refl
-same_weight Length Length is = refl
-same_weight _ _ is = absurd cc
+same_weight v w h1 = search rules
 
 -- Three words have one settings.
 pub same_settings : (scale floor weight : Word) (s t : Settings) (a b : Bool) → AreWordsOf scale floor weight s a
     → AreWordsOf scale floor weight t b → (s ≡ t) × (a ≡ b)
 same_settings scale floor weight s t a b one two =
-    let r = as_ratio scale s a one.scaled one.in_range in
-    let v = as_ratio scale t b two.scaled two.in_range in
-    let p = same_p scale s.p s.q t.p t.q r v in
-    let q = same_q scale s.p s.q t.p t.q r v in
+    let (p, q) = same_ratio scale s.p s.q t.p t.q (as_ratio scale s a one.scaled one.in_range)
+    (as_ratio scale t b two.scaled two.in_range) in
     let floors = same_floor s.floor t.floor a b one.in_range.floor two.in_range.floor (sym one.bounded ∙ two.bounded) in
     let weights = same_weight s.weight t.weight (sym one.weighed ∙ two.weighed) in
     (λ i. record { p = p i; q = q i; floor = floors.0 i; weight = weights i }, floors.1)

@@ -1,31 +1,26 @@
 -- The lines of a written text, and what they tell.
-use Rattle.std.proofs.Common.{Bool, List, append_assoc, ap₂, arith, codes, false, filter, get_or, length, negsuc, subst}
-use Rattle.std.proofs.Common.{ltb, map, not, pos, refl, suc, sym, true, zero, ◌++◌, ◌+◌, ◌<◌, ◌^◌, ◌↔◌, ◌∙◌, ◌∷◌, ◌≡◌}
-use Rattle.std.proofs.Common.{[], ap, ℕ, ℤ}
-use Rattle.std.proofs.lemmas.Bool.{and_from, and_parts, eqb-true, leb-true, ltb-true}
+use Rattle.std.proofs.Common.{rules, Bool, List, append_assoc, arith, codes, false, filter, get_or, length, subst, ltb}
+use Rattle.std.proofs.Common.{map, not, pos, refl, suc, sym, true, zero, ◌++◌, ◌+◌, ◌<◌, ◌^◌, ◌↔◌, ◌∙◌, ◌∷◌, ◌≡◌, []}
+use Rattle.std.proofs.Common.{ap, ℕ}
+use Rattle.std.proofs.lemmas.Bool.{and_from, and_parts, eqb-true, ltb-true}
 use Rattle.std.proofs.{lemmas.List.Concat.flat_map-append, lemmas.List.Folds.flat_map-map}
 use Rattle.std.proofs.{lemmas.List.Folds.list_all-append, lemmas.List.length-map}
-use Rattle.std.specs.{Char.is_ascii_digit, Fmt.signed_decimal, List.flat_map, List.list_all, List.All, Prelude.decimal}
-use Rattle.std.specs.{Prelude.unsigned_abs}
+use Rattle.std.specs.{Char.is_ascii_digit, List.flat_map, List.list_all, List.All, Prelude.decimal}
 use Rattle.def_certtext.specs.Reading.{IsHead, Made, TellCerts, TellHow, certificates_in, is_hash_line, may_stand}
 use Rattle.def_certtext.specs.Settings.{AreInRange, IsFloor, floor_text, scale_text, weight_text}
-use Rattle.def_certtext.specs.declared.CertLine.TheVariants.{Floor, Length, Rise as rise_line, Set, Vertex}
-use Rattle.def_certtext.specs.CertLines.{Certificates, line_text, text_of, HasUps, lists_of, raised, risen_by, said_by}
-use Rattle.def_certtext.specs.CertLines.{alone, risen, used}
+use Rattle.def_certtext.specs.CertLines.{Certificates, line_text, text_of, HasUps, lists_of, raised, risen_by, alone}
+use Rattle.def_certtext.specs.CertLines.{risen, used}
 use Rattle.def_certtext.specs.Laws.{certificate_lines, AreWritable, IsPrintable, WrittenLaw, chosen_lines}
 use Rattle.def_certtext.specs.{declared.CertLine.CertLine, declared.certs.Rising.Rising, HeadLine.head_line}
 use Rattle.def_certtext.specs.{Risings.third_if, declared.certs.Round.Round}
-use Rattle.def_flow.specs.declared.net.Weight.TheVariants.{Length as ByLength, Plain}
-use Rattle.def_flow.specs.{declared.net.Weight.Weight, declared.net.Settings.Settings}
+use Rattle.{def_flow.specs.declared.net.Settings.Settings, def_io.specs.Bytes.Lines, def_io.specs.Lines.lines_of}
 use Rattle.def_text.specs.{Canonical.canonical_text, FaceSet.FaceSet, Laws.is_position, Laws.is_quad, Types.Word}
 use Rattle.qm_certtext.proofs.{Chosen.chosen_allowed, Chosen.chosen_certs, Cutting.asked_words, Cutting.asked_cut}
-use Rattle.qm_certtext.proofs.{Cutting.same_settings, Counts.small_parts, Counts.floor_low, Counts.rise_low}
-use Rattle.qm_certtext.proofs.{Found.filter_append, Telling.all_marked, Telling.one_list}
-use Rattle.qm_obj.proofs.LawSoup.{canonical_lines, each_both, position_line, position_line_is, text_lines, vertex_word}
-use Rattle.qm_obj.proofs.LawSoup.{each_map, face_line}
+use Rattle.qm_certtext.proofs.{Cutting.same_settings, Counts.small_parts, Found.filter_append, Telling.all_marked}
+use Rattle.qm_certtext.proofs.{Telling.one_list}
+use Rattle.qm_obj.proofs.{LawSoup.canonical_lines, LawSoup.each_both, LawSoup.position_line, LawSoup.position_line_is}
+use Rattle.qm_obj.proofs.{LawSoup.vertex_word, LawSoup.each_map, LawSoup.face_line, TailLemmas.passes_at}
 use Rattle.qm_obj.proofs.LawText.{IsLine, IsWord, decimal_word, is_inside, line_tame, lines_back, tame_inside}
-use Rattle.qm_obj.proofs.TailLemmas.{passes_at}
-use Rattle.def_io.specs.{Bytes.Lines, Lines.lines_of}
 use Rattle.qm_dec.proofs.ReadBack.{decimal_digits, digit_other}
 use Rattle.qm_certtext.specs.{Cuts.asked_line, RoundLines.round_lines, RoundLines.HaveUps}
 
@@ -44,27 +39,10 @@ pub both_inside : (a b : Word) → list_all is_inside a ≡ true → list_all is
     ≡ true
 both_inside a b p q = list_all-append is_inside a b ∙ and_from _ _ p q
 
-signed_inside : (z : ℤ) → unsigned_abs z < 10 ^ 18 → list_all is_inside (signed_decimal z) ≡ true
-signed_inside (pos n) low = number_inside n (omega arith)
-signed_inside (negsuc n) low = number_inside (suc n) (omega arith)
-
 -- A certificate line is one line.
 line_inside : (rising : Rising) (line : CertLine) → may_stand rising line ≡ true
     → list_all is_inside (line_text line) ≡ true
-line_inside rising (Length n) may = number_inside n (omega (arith, leb-true n (10 ^ 12) may))
-line_inside rising (Vertex z u) may =
-    let parts = small_parts z u may in
-    both_inside (35 ∷ 121 ∷ 32 ∷ signed_decimal z) (32 ∷ decimal u) (signed_inside z parts.0)
-    (number_inside u (omega arith))
-line_inside rising (Set z u) may =
-    let parts = small_parts z u may in
-    both_inside (35 ∷ 115 ∷ 32 ∷ signed_decimal z) (32 ∷ decimal u) (signed_inside z parts.0)
-    (number_inside u (omega arith))
-line_inside rising (Floor f) may = number_inside f (omega (arith, floor_low rising f may))
-line_inside rising (rise_line r) may =
-    let low = rise_low rising r may in
-    both_inside (35 ∷ 114 ∷ 32 ∷ decimal (r.arc + 1)) (32 ∷ decimal r.floor)
-    (number_inside (r.arc + 1) (omega arith)) (number_inside r.floor (omega arith))
+line_inside rising line h1 = search (rules, number_inside, small_parts, both_inside)
 
 pub lines_inside : (rising : Rising) (said : List CertLine) → list_all (may_stand rising) said ≡ true → (k : ℕ) → k
     < length (map line_text said) → list_all is_inside (get_or (map line_text said) k []) ≡ true
@@ -83,22 +61,9 @@ pub floor_inside : (floor : ℕ) (auto : Bool) → IsFloor floor auto → list_a
 floor_inside floor true may = refl
 floor_inside floor false may = number_inside floor (omega arith)
 
-weight_inside : (weight : Weight) → list_all is_inside (weight_text weight) ≡ true
-weight_inside Plain = refl
-weight_inside ByLength = refl
-
 pub settings_inside : (front : Word) (settings : Settings) (auto : Bool) → list_all is_inside front ≡ true
     → AreInRange settings auto → list_all is_inside (settings_line front settings auto) ≡ true
-settings_inside front settings auto inside range =
-    let scale = front ++ scale_text settings in
-    let floor = scale ++ codes " floor " ++ floor_text settings.floor auto in
-    let parts = both_inside front (scale_text settings) inside (both_inside (decimal settings.p)
-    (47 ∷ decimal settings.q) (number_inside settings.p (omega arith)) (number_inside settings.q (omega arith))) in
-    both_inside (floor ++ codes " weight ") (weight_text settings.weight)
-    (both_inside floor (codes " weight ")
-    (both_inside (scale ++ codes " floor ") (floor_text settings.floor auto)
-    (both_inside scale (codes " floor ") parts refl) (floor_inside settings.floor auto range.floor)) refl)
-    (weight_inside settings.weight)
+settings_inside front settings auto inside range = search (rules, both_inside, number_inside)
 
 pub head_inside : (settings : Settings) (auto : Bool) → AreInRange settings auto
     → list_all is_inside (head_line settings auto) ≡ true
@@ -125,19 +90,15 @@ mesh_inside soup able =
     (face_line_is (get_or soup.faces k []) (passes_at is_quad soup.faces k [] able.quads l)
     (passes_at (λ face. list_all (λ v. ltb v (2 ^ 32)) face) soup.faces k [] able.corners l)).tame))
 
-no_marks_in : (xs : List (List ℤ)) → filter is_hash_line (map position_line xs) ≡ []
-no_marks_in [] = refl
-no_marks_in (x ∷ xs) = no_marks_in xs
-
-no_marks_at : (xs : List (List ℕ)) → filter is_hash_line (map face_line xs) ≡ []
-no_marks_at [] = refl
-no_marks_at (x ∷ xs) = no_marks_at xs
+none_marked : {X : Type 0} (f : X → Word) → ((x : X) → is_hash_line (f x) ≡ false) → (xs : List X)
+    → filter is_hash_line (map f xs) ≡ []
+none_marked f off [] = refl
+none_marked f off (x ∷ xs) = rw (off x) (none_marked f off xs)
 
 -- The lines of a mesh and of a certificate.
 mesh_and_said : (soup : FaceSet) (said : List CertLine) → canonical_text soup ++ text_of said
     ≡ flat_map (λ l. l ++ 10 ∷ []) (canonical_lines soup ++ map line_text said)
-mesh_and_said soup said = ap₂ ◌++◌ (text_lines soup) (sym (flat_map-map (λ l. l ++ 10 ∷ []) line_text said))
-    ∙ sym (flat_map-append (λ l. l ++ 10 ∷ []) (canonical_lines soup) (map line_text said))
+mesh_and_said soup said = search (rules, flat_map-map, flat_map-append)
 
 behind_inside : (rising : Rising) (soup : FaceSet) (said : List CertLine) → IsPrintable soup
     → list_all (may_stand rising) said ≡ true → (k : ℕ) → k < length (canonical_lines soup ++ map line_text said)
@@ -149,8 +110,7 @@ behind_inside rising soup said able allowed = each_both (λ l. list_all is_insid
 pub lines_behind : (rising : Rising) (soup : FaceSet) (said : List CertLine) → IsPrintable soup
     → list_all (may_stand rising) said ≡ true
     → lines_of (canonical_text soup ++ text_of said) ≡ canonical_lines soup ++ map line_text said
-lines_behind rising soup said able allowed = ap lines_of (mesh_and_said soup said) ∙ lines_back
-    (canonical_lines soup ++ map line_text said) (behind_inside rising soup said able allowed)
+lines_behind rising soup said able allowed = search (rules, mesh_and_said, lines_back, behind_inside)
 
 -- All lines of a text with some head line.
 pub lines_whole : (head : Word) (rising : Rising) (soup : FaceSet) (said : List CertLine) → list_all is_inside head
@@ -168,9 +128,7 @@ lines_whole head rising soup said inside able allowed =
 -- Those that are marked.
 pub marked_are : (soup : FaceSet) (said : List CertLine)
     → filter is_hash_line (canonical_lines soup ++ map line_text said) ≡ map line_text said
-marked_are soup said = filter_append is_hash_line (canonical_lines soup) (map line_text said)
-    ∙ ap₂ ◌++◌ (filter_append is_hash_line (map position_line soup.pos) (map face_line soup.faces)
-    ∙ ap₂ ◌++◌ (no_marks_in soup.pos) (no_marks_at soup.faces)) (all_marked said)
+marked_are soup said = search (rules, filter_append, none_marked, all_marked)
 
 -- One line behind a prefix is of one settings.
 pub same_asked : (prefix line : Word) (s t : Settings) (a b : Bool) → AreInRange s a → line ≡ asked_line prefix s a
@@ -232,8 +190,7 @@ written_law settings auto soup certificates range printable able other =
 
     tells : (one : Certificates) → TellCerts (third_if auto) (canonical_lines soup ++ map line_text said) one
         ↔ (one ≡ certificates)
-    tells = certs_tell (third_if auto) (canonical_lines soup ++ map line_text said) certificates
-        (marked_are soup said) able
+    tells = search (rules, certs_tell, marked_are)
 
     only : TellHow (head_line settings auto) (canonical_lines soup ++ map line_text said) other → other ≡ made
     only tell =
@@ -274,7 +231,4 @@ text_both a b = flat_map-append (λ line. line_text line ++ 10 ∷ []) a b
 pub round_lines_are : (rounds : List Round) (after : Certificates)
     → round_lines rounds ++ chosen_lines after ≡ chosen_lines (risen_by rounds after)
 round_lines_are [] after = refl
-round_lines_are (round ∷ rounds) after = append_assoc (said_by (lists_of round.cert)) (map rise_line round.rises.items
-    ++ round_lines rounds) (chosen_lines after) ∙ ap (λ (ls : List CertLine). said_by (lists_of round.cert) ++ ls)
-    (append_assoc (map rise_line round.rises.items) (round_lines rounds) (chosen_lines after)
-    ∙ ap (λ (ls : List CertLine). map rise_line round.rises.items ++ ls) (round_lines_are rounds after))
+round_lines_are (round ∷ rounds) after = search (rules, append_assoc, round_lines_are rounds after)

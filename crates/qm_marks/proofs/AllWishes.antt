@@ -1,18 +1,15 @@
 -- Wishes line by line: what is known after some lines of a text.
-use Rattle.std.proofs.Common.{List, arith, codes, cond, drop, false, get_or, length, length-take, map, refl, take, true}
-use Rattle.std.proofs.Common.{Ok, [], ap, sym, ℕ, ◌++◌, ◌+◌, ◌-◌, ◌<◌, ◌∙◌, ◌∷◌, ◌≡◌, ◌≤◌, Bool, ltb, not, ◌||◌}
+use Rattle.std.proofs.Common.{rules, List, arith, codes, cond, drop, false, get_or, length, length-take, map, refl}
+use Rattle.std.proofs.Common.{take, true, Ok, [], ap, sym, ℕ, ◌++◌, ◌+◌, ◌-◌, ◌<◌, ◌∙◌, ◌∷◌, ◌≡◌, ◌≤◌, Bool, ltb, not}
+use Rattle.std.proofs.Common.{◌||◌}
 use Rattle.std.proofs.lemmas.List.{get_or_default, at_drop_more, drop_all, get_or-take, length-map, same_lists}
-use Rattle.std.proofs.lemmas.Bool.{false_from_ne_true, true≢false, not-false, or_parts}
-use Rattle.std.proofs.{lemmas.List.FromFn.get_or-map-range_with_len, lemmas.List.FromFn.length-range_with_len}
-use Rattle.std.proofs.{lemmas.Slice.Eq.bytes_eq-Decides, lemmas.Simd.map-map, Math.Bool.or-true}
+use Rattle.std.proofs.{lemmas.Bool.not-false, lemmas.Bool.or_parts, lemmas.List.FromFn.get_or-map-range_with_len}
+use Rattle.std.proofs.{lemmas.List.FromFn.length-range_with_len, lemmas.Slice.Eq.bytes_eq-Decides, lemmas.Simd.map-map}
 use Rattle.std.specs.{List.All, List.range_with_len, List.list_all, List.list_any, Prelude.slice_range, Str.bytes_eq}
 use Rattle.def_fit.specs.WishLines.{all_wish_fails, edge_wishes, is_wish_line, vertex_line_count, wish_or, wishes_said}
 use Rattle.def_fit.specs.WishLines.{Wished, all_wished, wish_fails, wish_words, wished_by, wishes_of}
-use Rattle.def_fit.specs.declared.fit.TheConstants.{MAX_WISH}
-use Rattle.def_marks.specs.Lines.{corner_fails, corner_index, is_line_corner, is_malformed, named_chain, named_vertex}
-use Rattle.def_marks.specs.Lines.{is_nothing}
-use Rattle.def_marks.specs.{Chains.runs_between, Chains.is_chain, declared.fail.MarkFail.TheVariants.NotEdge}
-use Rattle.def_marks.specs.{declared.fail.MarkFail.TheVariants.Range}
+use Rattle.{def_fit.specs.declared.fit.TheConstants.MAX_WISH, def_marks.specs.Chains.runs_between}
+use Rattle.def_marks.specs.Lines.{corner_index, is_line_corner, is_malformed, named_chain, named_vertex, is_nothing}
 use Rattle.def_text.specs.{FaceSet.FaceSet, Types.Words, declared.index.Index.Index}
 use Rattle.{qm_marks.specs.Wishing.TakesWish, qm_marks.specs.Wishing.pieces_of, def_io.specs.Lines.lines_of}
 use Rattle.{def_io.specs.Bytes.Bytes, def_io.specs.Bytes.Lines, def_mesh.specs.Darts.darts, def_mesh.specs.Faces.Faces}
@@ -60,11 +57,7 @@ module _ {soup : FaceSet} {lines : Lines} {all i : ℕ} {wishes : List ℕ} (kno
 
     -- One that wishes for nothing.
     pub at_other : bytes_eq (take 3 line) (codes "#w ") ≡ false → IsAtWish soup lines all (i + 1) wishes
-    at_other other =
-        let off : is_wish_line line ≡ false = false_from_ne_true _ (λ begins.
-        true≢false (sym ((bytes_eq-Decides (take 3 line) (codes "#w ")).1
-        (sym ((bytes_eq-Decides (codes "#w ") (take 3 line)).0 begins))) ∙ other)) in
-        more wishes (rw off refl) known.long (λ d l. rw off refl) known.small
+    at_other other = search (rules, more)
 
     module _ (begins : bytes_eq (take 3 line) (codes "#w ") ≡ true) {rest : Bytes} (behind : rest ≡ drop 3 line) where
       on : is_wish_line line ≡ true
@@ -73,8 +66,7 @@ module _ {soup : FaceSet} {lines : Lines} {all i : ℕ} {wishes : List ℕ} (kno
       -- One that is taken.
       pub at_wish : (new : List ℕ) → length new ≡ darts soup.faces
           → TakesWish soup all (i + 1) (pieces_of rest) wishes new → IsAtWish soup lines all (i + 1) new
-      at_wish new long took = more new (rw (on, ← behind) took.accepted) long
-          (λ d l. rw (on, ← behind) (took.wishes d l)) (λ d l. took.small d l (known.small d l))
+      at_wish new long took = search (rules, more)
 
   -- Behind the last line.
   module _ (high : length lines ≤ i) where
@@ -126,8 +118,7 @@ module _ (all before : ℕ) (corners : Words) (right : Bool) (indices : List Ind
           ≡ (ltb (length corners) 2 || not (list_all is_line_corner corners))
       by_right true on = ap (λ n. ltb n 2 || false) (ap length (are on) ∙ length-map corners (corner_index all before))
           ∙ ap (λ b. ltb (length corners) 2 || not b) (sym on ∙ is)
-      by_right false off = or-true (ltb (length indices) 2)
-          ∙ sym (ap (λ b. ltb (length corners) 2 || not b) (sym is ∙ off) ∙ or-true (ltb (length corners) 2))
+      by_right false off = search rules
 
   -- Where none is missing the indices are theirs.
   pub indices_are : (ltb (length indices) 2 || not right) ≡ false → indices ≡ map (corner_index all before) corners
@@ -141,26 +132,9 @@ any_map p f (x ∷ xs) = ap (λ b. p (f x) || b) (any_map p f xs)
 pub nothing_is : (all before : ℕ) (corners : Words) (indices : List Index)
     → indices ≡ map (corner_index all before) corners
     → list_any is_nothing indices ≡ list_any (λ word. is_nothing (corner_index all before word)) corners
-nothing_is all before corners indices are = ap (list_any is_nothing) are ∙ any_map is_nothing (corner_index all before)
-    corners
+nothing_is all before corners indices are = search (rules, any_map)
 
 pub chain_is : (names : List ℕ) (all before : ℕ) (corners : Words) (indices : List Index) (chain : List ℕ)
     → indices ≡ map (corner_index all before) corners
     → chain ≡ map (named_vertex names) indices → chain ≡ named_chain names all before corners
-chain_is names all before corners indices chain are is =
-    is ∙ (ap (map (named_vertex names)) are ∙ map-map (named_vertex names) (corner_index all before) corners)
-
-module _ (soup : FaceSet) (all before number : ℕ) (corners : Words) where
-  module _ (off : is_malformed corners ≡ false) where
-    pub fails_range : list_any (λ word. is_nothing (corner_index all before word)) corners ≡ true
-        → corner_fails soup all before number corners ≡ Range number ∷ []
-    fails_range on = rw (off, on) refl
-
-    module _ (named : list_any (λ word. is_nothing (corner_index all before word)) corners ≡ false) where
-      pub fails_edge : is_chain soup.faces (named_chain soup.names all before corners) ≡ false
-          → corner_fails soup all before number corners ≡ NotEdge number ∷ []
-      fails_edge none = rw (off, named, none) refl
-
-      pub fails_none : is_chain soup.faces (named_chain soup.names all before corners) ≡ true
-          → corner_fails soup all before number corners ≡ []
-      fails_none on = rw (off, named, on) refl
+chain_is names all before corners indices chain are is = search (rules, map-map)

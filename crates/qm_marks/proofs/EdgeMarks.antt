@@ -1,15 +1,14 @@
 -- The marks along chains of edges are those of inner edges, equal at twins.
-use Rattle.std.proofs.Common.{Bool, List, Option, Some, arith, eqb, false, is_some, sym, ◌&&◌, ◌+◌, ◌<◌, ◌||◌, ◌∙◌, ◌≡◌}
-use Rattle.std.proofs.Common.{ap, ℕ, None, [], get_or, length, refl, true, inl, inr, set, ◌∷◌, ◌≢◌, ◌⊎◌, map, ◌%◌, ◌*◌}
-use Rattle.std.proofs.Common.{◌++◌, ◌-◌, ◌/◌, ◌^◌, ◌≤◌}
+use Rattle.std.proofs.Common.{rules, Bool, List, Option, Some, arith, eqb, false, is_some, sym, ◌&&◌, ◌+◌, ◌<◌, ◌||◌}
+use Rattle.std.proofs.Common.{◌∙◌, ◌≡◌, ap, ℕ, None, [], get_or, length, refl, true, inl, inr, set, ◌∷◌, ◌≢◌, ◌⊎◌, map}
+use Rattle.std.proofs.Common.{◌%◌, ◌*◌, ◌++◌, ◌-◌, ◌/◌, ◌^◌, ◌≤◌, cond}
 use Rattle.std.proofs.lemmas.List.FromFn.{get_or-map-range_with_len, length-range_with_len, get_or-range_with_len}
-use Rattle.std.proofs.lemmas.List.{length-map, get_or-set_other, get_or-set_same, length-set, append-nil, get_or-map}
-use Rattle.std.proofs.lemmas.List.{map-append}
-use Rattle.std.proofs.lemmas.Bool.{and_from, and_parts, cases_eq, eqb-true, false_from_ne_true, false≢true, or_cases}
-use Rattle.std.proofs.lemmas.Bool.{eq-eqb, or_left, or_right}
+use Rattle.std.proofs.lemmas.List.{length-map, get_or-set_other, get_or-set_same, length-set, get_or-map, map-append}
+use Rattle.std.proofs.lemmas.Bool.{and_from, and_parts, cases_eq, eqb-true, false≢true, or_cases, eq-eqb, or_left}
+use Rattle.std.proofs.lemmas.Bool.{or_right, cases_Bool}
 use Rattle.std.proofs.lemmas.List.Folds.{list_all-append, list_all_at, list_any-append}
-use Rattle.std.proofs.{lemmas.Option.none-some, Math.Bool.and-true, Math.Bool.or-false, Math.Bool.or_comm}
-use Rattle.std.proofs.{lemmas.List.Elements.Contains-get_or, lemmas.List.Elements.at_from_Contains}
+use Rattle.std.proofs.{lemmas.Option.none-some, lemmas.Option.same_Some, Math.Bool.and-true, Math.Bool.or-false}
+use Rattle.std.proofs.{Math.Bool.or_comm, lemmas.List.Elements.Contains-get_or, lemmas.List.Elements.at_from_Contains}
 use Rattle.std.proofs.{lemmas.List.Sorted.Contains-permutation, lemmas.List.Sorted.IsPermutation-sym}
 use Rattle.std.proofs.{lemmas.Nat.div-mul-add, lemmas.Nat.mod-mul-add}
 use Rattle.std.specs.{List.list_any, List.list_all, List.range_with_len, List.Contains, List.Sorted.IsNonDecreasing}
@@ -26,8 +25,7 @@ use Rattle.{def_feature.specs.Marks.AreMarks, def_cut.specs.FullCut.is_on}
 -- The mark of a dart.
 pub mark_along : (faces : Faces) (chains : List (List ℕ)) (d : ℕ) → d < darts faces → is_on (marks_along faces chains) d
     ≡ is_along_chains faces chains d
-mark_along faces chains d l = get_or-map-range_with_len (is_along_chains faces chains) 0 (darts faces) d d false l
-    (omega arith)
+mark_along faces chains d l = search (rules, get_or-map-range_with_len)
 
 turned : (a b c e : Bool) → ((e && c) || (b && a)) ≡ ((a && b) || (c && e))
 turned a b c e = grind (arith)
@@ -62,62 +60,97 @@ marks_are faces chains m = record {
       ∙ ap (λ (o : Option ℕ). is_some o && list_any (λ chain. runs_along faces chain d) chains) t;
 }
 
+-- What is not along a chain keeps its mark.
+pub unmarked : (o s : Bool) → o ≡ (o || (s && false))
+unmarked o s = grind (arith)
+
 -- One edge more is marked, and one chain of edges.
 
 module _ (faces : Faces) (m : IsManifold faces) where
-  -- What runs between the ends of a dart is that dart or its twin.
-  pub on_edge : (d x : ℕ) → d < darts faces → x < darts faces → runs_between faces (from_of faces d) (to_of faces d) x
-      ≡ true → (x ≡ d) ⊎ IsTwin faces d x
-  on_edge d x ld lx on = elim (or_cases _ _ on) [
-    | inl a ↦ let p = and_parts (eqb (from_of faces x) (from_of faces d)) _ a in inl
-        (m.edges_once x d lx ld (eqb-true _ _ p.0, eqb-true _ _ p.1))
-    | inr b ↦ let p = and_parts (eqb (from_of faces x) (to_of faces d)) _ b in inr
-        (lx, eqb-true _ _ p.0, eqb-true _ _ p.1)
+  -- What runs between the ends of a dart is that dart or its twin, and nothing else.
+  edge_cases : (d x : ℕ) → d < darts faces → x < darts faces
+      → ((runs_between faces (from_of faces d) (to_of faces d) x ≡ true) × ((x ≡ d) ⊎ (twin_of faces d ≡ Some x)))
+      ⊎ ((runs_between faces (from_of faces d) (to_of faces d) x ≡ false) × (x ≢ d) × (twin_of faces d ≢ Some x))
+  edge_cases d x ld lx =
+      let Runs = runs_between faces (from_of faces d) (to_of faces d) x ≡ true in
+      elim (cases_Bool (runs_between faces (from_of faces d) (to_of faces d) x)) [
+        | inl on ↦ inl (
+          on,
+          elim (or_cases _ _ on) [
+            | inl a ↦ let p = and_parts (eqb (from_of faces x) (from_of faces d)) _ a in
+                inl (m.edges_once x d lx ld (eqb-true _ _ p.0, eqb-true _ _ p.1))
+            | inr b ↦ let p = and_parts (eqb (from_of faces x) (to_of faces d)) _ b in
+                inr (twin_found faces m.edges_once d x (lx, eqb-true _ _ p.0, eqb-true _ _ p.1))
+          ],
+        )
+        | inr off ↦ inr (
+          off,
+          λ e.
+              let on : Runs = or_left _ _ (and_from _ _ (eq-eqb _ _ (ap (from_of faces) e))
+              (eq-eqb _ _ (ap (to_of faces) e))) in
+              false≢true (sym off ∙ on),
+          λ t.
+              let is = twin_is faces d x t in
+              let on : Runs = or_right _ _ (and_from _ _ (eq-eqb _ _ is.1) (eq-eqb _ _ is.2)) in
+              false≢true (sym off ∙ on),
+        )
+      ]
+
+  -- What is put at the dart of an edge, and at its twin, stands at the darts of that edge alone.
+  pub put_one : {X : Type 0} (xs : List X) (y n : X) (d : ℕ) → d < darts faces → length xs ≡ darts faces
+      → twin_of faces d ≡ None → (x : ℕ) → x < darts faces
+      → get_or (set xs d y) x n ≡ cond (runs_between faces (from_of faces d) (to_of faces d) x) y (get_or xs x n)
+  put_one xs y n d ld long none x lx = elim (edge_cases d x ld lx) [
+    | inl on ↦ rw on.0 (elim on.1 [
+      | inl e ↦ rw e (get_or-set_same xs d y n (omega (arith, ld, long)))
+      | inr t ↦ absurd (none-some x (sym none ∙ t))
+    ])
+    | inr off ↦ rw off.0 (get_or-set_other xs d x y n off.1)
   ]
 
-  -- An edge of one dart is not marked.
+  pub put_two : {X : Type 0} (xs : List X) (y n : X) (d t : ℕ) → d < darts faces → length xs ≡ darts faces
+      → twin_of faces d ≡ Some t → (x : ℕ) → x < darts faces → get_or (set (set xs d y) t y) x n
+      ≡ cond (runs_between faces (from_of faces d) (to_of faces d) x) y (get_or xs x n)
+  put_two xs y n d t ld long twin x lx =
+      let low = (twin_is faces d t twin).0 in
+      elim (edge_cases d x ld lx) [
+        | inl on ↦ rw on.0 (elim (cases_eq x t) [
+          | inl e ↦ rw e (get_or-set_same (set xs d y) t y n (omega (arith, low, long, length-set xs d y)))
+          | inr ne ↦ get_or-set_other (set xs d y) t x y n ne ∙ elim on.1 [
+            | inl e ↦ rw e (get_or-set_same xs d y n (omega (arith, ld, long)))
+            | inr tw ↦ absurd (ne (same_Some x t (sym tw ∙ twin)))
+          ]
+        ])
+        | inr off ↦ rw off.0 (get_or-set_other (set xs d y) t x y n (λ e. off.2 (rw e twin))
+            ∙ get_or-set_other xs d x y n off.1)
+      ]
+
+  -- Where inner edges alone are marked, an edge of one dart is not.
   pub mark_none : (d : ℕ) (marks : List Bool) → d < darts faces → twin_of faces d ≡ None → (x : ℕ) → x < darts faces
       → is_on marks x ≡ (is_on marks x
       || (is_some (twin_of faces x) && runs_between faces (from_of faces d) (to_of faces d) x))
-  mark_none d marks ld none x lx =
-      let off : (is_some (twin_of faces x) && runs_between faces (from_of faces d) (to_of faces d) x) ≡ false =
-      false_from_ne_true _ (λ on.
-      let p = and_parts (is_some (twin_of faces x)) _ on in
-      elim (on_edge d x ld lx p.1) [
-        | inl e ↦ false≢true (sym (ap is_some none) ∙ (ap (λ y. is_some (twin_of faces y)) (sym e) ∙ p.0))
-        | inr t ↦ none-some x (sym none ∙ twin_found faces m.edges_once d x t)
-      ]) in
-      rw (off, or-false (is_on marks x)) refl
+  mark_none d marks ld none x lx = elim (edge_cases d x ld lx) [
+    | inl on ↦ elim on.1 [
+      | inl e ↦ let alone : twin_of faces x ≡ None = rw e none in rw alone (sym (or-false (is_on marks x)))
+      | inr t ↦ absurd (none-some x (sym none ∙ t))
+    ]
+    | inr off ↦ rw off.0 (unmarked (is_on marks x) (is_some (twin_of faces x)))
+  ]
 
   -- Both darts of another edge are.
   pub mark_both : (d t : ℕ) (marks : List Bool) → d < darts faces → length marks ≡ darts faces → twin_of faces d
       ≡ Some t → (x : ℕ) → x < darts faces → is_on (set (set marks d true) t true) x
       ≡ (is_on marks x || (is_some (twin_of faces x) && runs_between faces (from_of faces d) (to_of faces d) x))
-  mark_both d t marks ld long twin x lx =
-      let is = twin_is faces d t twin in
-      let back = twin_found faces m.edges_once t d (ld, sym is.2, sym is.1) in
-      elim (cases_eq x t) [
-        | inl e ↦ ap (is_on (set (set marks d true) t true)) e
-            ∙ (get_or-set_same (set marks d true) t true false (omega (arith, length-set marks d true))
-            ∙ sym (or_right (is_on marks x) _ (and_from _ _ (ap (λ y. is_some (twin_of faces y)) e ∙ ap is_some back)
-            (or_right _ _ (and_from _ _ (eq-eqb _ _ (ap (from_of faces) e ∙ is.1))
-            (eq-eqb _ _ (ap (to_of faces) e ∙ is.2)))))))
-        | inr ne ↦ elim (cases_eq x d) [
-          | inl e ↦ get_or-set_other (set marks d true) t x true false ne
-              ∙ (ap (is_on (set marks d true)) e ∙ (get_or-set_same marks d true false (omega arith)
-              ∙ sym (or_right (is_on marks x) _ (and_from _ _
-              (ap (λ y. is_some (twin_of faces y)) e ∙ ap is_some twin)
-              (or_left _ _ (and_from _ _ (eq-eqb _ _ (ap (from_of faces) e)) (eq-eqb _ _ (ap (to_of faces) e))))))))
-          | inr other ↦
-              let off : (is_some (twin_of faces x) && runs_between faces (from_of faces d) (to_of faces d) x)
-              ≡ false = false_from_ne_true _ (λ on.
-              elim (on_edge d x ld lx (and_parts (is_some (twin_of faces x)) _ on).1) [
-                | inl same ↦ other same
-                | inr tw ↦ ne (m.edges_once x t lx is.0 (tw.1 ∙ sym is.1, tw.2 ∙ sym is.2))
-              ]) in
-              get_or-set_other (set marks d true) t x true false ne ∙ get_or-set_other marks d x true false other
-              ∙ rw (off, or-false (is_on marks x)) refl
-        ]
+  mark_both d t marks ld long twin x lx = put_two marks true false d t ld long twin x lx
+      ∙ elim (edge_cases d x ld lx) [
+        | inl on ↦
+            let some : is_some (twin_of faces x) ≡ true = elim on.1 [
+              | inl e ↦ ap (λ y. is_some (twin_of faces y)) e ∙ ap is_some twin
+              | inr tw ↦ let is = twin_is faces d x tw in
+                  ap is_some (twin_found faces m.edges_once x d (ld, sym is.2, sym is.1))
+            ] in
+            rw (on.0, some) (sym (or_right (is_on marks x) true refl))
+        | inr off ↦ rw off.0 (unmarked (is_on marks x) (is_some (twin_of faces x)))
       ]
 
 -- A dart between u and v has the darts of its edge between its own ends.
@@ -139,14 +172,7 @@ merged o s a b = grind (arith)
 pub step_more : (now old : Bool) (some : Bool) (p : ℕ → Bool) (k : ℕ) (mid : Bool)
     → mid ≡ (old || (some && list_any p (range_with_len 0 k)))
     → now ≡ (mid || (some && p k)) → now ≡ (old || (some && list_any p (range_with_len 0 (k + 1))))
-step_more now old some p k mid before step = rw (
-  step,
-  before,
-  range_more k,
-  list_any-append p (range_with_len 0 k)
-      (k ∷ []),
-  or-false (p k),
-) (merged old some (list_any p (range_with_len 0 k)) (p k))
+step_more now old some p k mid before step = search (rules, range_more, list_any-append)
 
 -- So many steps of a chain are marked.
 pub record IsChainTo (faces : Faces) (chain : List ℕ) (old now : List Bool) (n : ℕ) : Type 0 where
@@ -172,14 +198,7 @@ chain_more faces chain old now new n to long edge step = record {
 }
 
 pub no_edge : (faces : Faces) (u v : ℕ) → IsNoneBetween faces u v → IsNoneBetween faces v u → is_edge faces u v ≡ false
-no_edge faces u v none back = false_from_ne_true _ (λ on.
-    let at = range_any (runs_between faces u v) 0 (darts faces) on in
-    elim (or_cases _ _ at.3) [
-      | inl a ↦ let p = and_parts (eqb (from_of faces at.0) u) _ a in none at.0 (omega arith) (eqb-true _ _ p.0)
-          (eqb-true _ _ p.1)
-      | inr b ↦ let p = and_parts (eqb (from_of faces at.0) v) _ b in back at.0 (omega arith) (eqb-true _ _ p.0)
-          (eqb-true _ _ p.1)
-    ])
+no_edge faces u v none back = search (rules, range_any)
 
 -- A step that is no edge.
 pub all_not : (p : ℕ → Bool) (n k : ℕ) → k < n → p k ≡ false → list_all p (range_with_len 0 n) ≡ false
@@ -225,15 +244,11 @@ pub key_ends : (u v d : ℕ) → d < 2 ^ 32 → key_of u v d / 2 ^ 32 ≡ u * 2 
 key_ends u v d l = div-mul-add (u * 2 ^ 32 + v) (2 ^ 32) d l
 
 pub same_ends : (u v f t : ℕ) → v < 2 ^ 32 → t < 2 ^ 32 → f * 2 ^ 32 + t ≡ u * 2 ^ 32 + v → (f ≡ u) × (t ≡ v)
-same_ends u v f t lv lt e =
-    let q : f ≡ u = sym (div-mul-add f (2 ^ 32) t lt) ∙ (ap (λ x. x / 2 ^ 32) e ∙ div-mul-add u (2 ^ 32) v lv) in
-    (q, omega arith)
+same_ends u v f t lv lt e = search rules
 
 -- What lies between two multiples.
 pub between : (a x : ℕ) → a * 2 ^ 32 ≤ x → x < a * 2 ^ 32 + 2 ^ 32 → x / 2 ^ 32 ≡ a
-between a x l h =
-    let e : x ≡ a * 2 ^ 32 + (x - a * 2 ^ 32) = omega arith in
-    ap (λ y. y / 2 ^ 32) e ∙ div-mul-add a (2 ^ 32) (x - a * 2 ^ 32) (omega arith)
+between a x l h = search rules
 
 module _ (faces : Faces) (few : ℕ) (keys : List ℕ) (are : AreEnds faces few keys) (small : vertex_count faces < 2 ^ 32)
     (short : darts faces < 2 ^ 32) (u v : ℕ) (low : v < 2 ^ 32) (place : ℕ) where
@@ -273,5 +288,4 @@ keys_on faces few d key on is = rw (filter_range_more (is_busy faces few) d, on,
 pub keys_off : (faces : Faces) (few d : ℕ) → is_busy faces few d ≡ false
     → map (dart_key faces) (filter (is_busy faces few) (range_with_len 0 (d + 1)))
     ≡ map (dart_key faces) (filter (is_busy faces few) (range_with_len 0 d))
-keys_off faces few d off =
-    rw (filter_range_more (is_busy faces few) d, off, append-nil (filter (is_busy faces few) (range_with_len 0 d))) refl
+keys_off faces few d off = search (rules, filter_range_more)

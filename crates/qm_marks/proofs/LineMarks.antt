@@ -1,6 +1,6 @@
 -- Marks line by line: what is known after some lines of a text.
-use Rattle.std.proofs.Common.{Bool, Err, List, Ok, arith, cond, false, is_some, length, map, refl, sym, ◌&&◌, ◌+◌, ◌||◌}
-use Rattle.std.proofs.Common.{[], ap, ℕ, ◌<◌, ◌∙◌, ◌∷◌, ◌≡◌, ◌≤◌}
+use Rattle.std.proofs.Common.{rules, Bool, Err, List, Ok, arith, cond, false, is_some, length, map, refl, sym, ◌&&◌}
+use Rattle.std.proofs.Common.{◌+◌, ◌||◌, [], ap, ℕ, ◌<◌, ◌∙◌, ◌∷◌, ◌≡◌, ◌≤◌}
 use Rattle.std.proofs.{lemmas.List.FromFn.length-range_with_len, lemmas.List.Sums.sum_by-cons}
 use Rattle.std.proofs.{lemmas.List.get_or_default, lemmas.List.length-map, lemmas.List.same_lists}
 use Rattle.std.specs.{List.count_by, List.flat_map, List.list_any, Prelude.slice_range}
@@ -10,11 +10,10 @@ use Rattle.def_marks.specs.{declared.fail.MarkFail.MarkFail}
 use Rattle.def_mesh.specs.{Darts.all_darts, Darts.darts, Darts.twin_of, Faces.Faces, Manifold.IsManifold}
 use Rattle.def_text.specs.{Logical.logical_lines, Logical.Logical, Reading.is_vertex_line}
 use Rattle.def_text.specs.{declared.limits.TheConstants.MAX_V_LINES, FaceSet.FaceSet}
-use Rattle.qm_marks.specs.{Reading.IsBegun, Reading.IsReading, Reading.TookLine, Reading.line_at, Reading.placed_at}
+use Rattle.qm_marks.specs.{Reading.IsBegun, Reading.IsReading, Reading.TookLine, Reading.placed_at}
 use Rattle.qm_marks.specs.{declared.lines.MarkReader.MarkReader}
 use Rattle.qm_marks.proofs.EdgeMarks.{mark_along, merged, marks_are}
-use Rattle.qm_obj.proofs.Groups.{next_lines, span_within, range_none}
-use Rattle.qm_obj.specs.{Ahead.span, Lines.first_logical}
+use Rattle.qm_obj.{proofs.Groups.next_lines, proofs.Groups.span_within, specs.Ahead.span, specs.Lines.first_logical}
 use Rattle.{def_feature.specs.Marks.AreMarks, def_cut.specs.FullCut.is_on, def_io.specs.Bytes.Lines}
 
 -- Whether dart d runs along the chain of some line.
@@ -37,20 +36,6 @@ count_cons line rest = sum_by-cons (λ l. cond (is_vertex_line l) 1 0) line rest
 
 pub one_vertex : (line : Logical) → vertex_lines_in line ≤ 1
 one_vertex line = grind (arith)
-
-module _ (soup : FaceSet) (mesh : Faces) where
-  -- Before the first line.
-  pub left_begun : (lines : List Logical) (reader : MarkReader) → mesh ≡ soup.faces → length soup.names ≤ MAX_V_LINES
-      → IsBegun mesh (count_by is_vertex_line lines) reader → IsLeft soup mesh (text_lines lines) lines reader
-  left_begun lines reader same few begun = record {
-    reads = record { same = same; ends = begun.ends; long = begun.long; within = omega arith; few = few };
-    left = omega arith;
-    fails = λ i. flat_map (line_fails soup) (placed_lines (begun.all_is i) (begun.none i) lines);
-    marks = λ d l. ap (λ b. b
-        || (is_some (twin_of soup.faces d) && is_said soup (placed_lines reader.all reader.before lines) d))
-        (begun.off d)
-        ∙ (λ i. is_some (twin_of soup.faces d) && is_said soup (placed_lines (begun.all_is i) (begun.none i) lines) d);
-  }
 
 module _ {soup : FaceSet} {mesh : Faces} where
   module _ {all : List Placed} {line : Logical} {rest : List Logical} {old : MarkReader}
@@ -92,13 +77,9 @@ module _ {soup : FaceSet} {mesh : Faces} where
     long_all = length-map (all_darts soup.faces) (is_along_chains soup.faces (map (line_chain soup) all))
         ∙ length-range_with_len 0 (darts soup.faces)
 
-    nothing : (o s : Bool) → o ≡ (o || (s && false))
-    nothing o s = grind (arith)
-
     at : (d : ℕ) → d < darts soup.faces → is_on reader.marks.items d
         ≡ is_on (marks_along soup.faces (map (line_chain soup) all)) d
-    at d l = nothing (is_on reader.marks.items d) (is_some (twin_of soup.faces d))
-        ∙ (known.marks d l ∙ sym (mark_along soup.faces (map (line_chain soup) all) d l))
+    at d l = search (rules, mark_along)
 
     -- Behind the last line.
     pub left_same : reader.marks.items ≡ marks_along soup.faces (map (line_chain soup) all)
@@ -108,17 +89,6 @@ module _ {soup : FaceSet} {mesh : Faces} where
 
     pub left_none : marks_of soup all ≡ Ok reader.marks.items
     left_none = rw (← known.fails) (ap Ok (sym left_same))
-
--- What is read of a line is its number and its text.
-pub took_line : {soup : FaceSet} {old new : MarkReader} (line : Logical) {text : List ℕ} → text ≡ line.text
-    → TookLine soup old new (line_at line.number text) → TookLine soup old new line
-took_line line is took =
-    let t = rw is at took in
-    record { accepted = t.accepted; same = t.same; before = t.before; marked = t.marked }
-
-pub fails_line : (soup : FaceSet) (all before : ℕ) (line : Logical) (text : List ℕ) → text ≡ line.text
-    → line_fails soup (placed_at all before (line_at line.number text)) ≡ line_fails soup (placed_at all before line)
-fails_line soup all before line text is = ap (λ xs. line_fails soup (placed_at all before (line_at line.number xs))) is
 
 -- The first physical lines, up to line i, are read; those from i up to `after` are left.
 pub record IsAtLine (soup : FaceSet) (mesh : Faces) (all : Lines) (first i after : ℕ) (reader : MarkReader) : Type
@@ -150,29 +120,21 @@ module _ {soup : FaceSet} {mesh : Faces} {all : Lines} {first i after : ℕ} {re
     at_next is took = rw is (record { within = (span_within all i after lt within).1; left = left_more ahead took })
 
   ends : after ≤ i → IsLeft soup mesh (text_lines (logical_lines (first + 1) (slice_range all first after))) [] reader
-  ends past =
-      let end : i ≡ after = omega arith in
-      let none : slice_range all i after ≡ [] = rw end (range_none all after) in
-      let left = at.left in rw none at left
+  ends past = search rules
 
   pub at_end : after ≤ i → marks_of soup (text_lines (logical_lines (first + 1) (slice_range all first after)))
       ≡ Ok reader.marks.items
   at_end past = left_none (ends past)
 
   pub at_inner : after ≤ i → IsManifold mesh → AreMarks mesh reader.marks.items
-  at_inner past m = rw (left_same (ends past), ← (ends past).reads.same)
-      (marks_are mesh (map (line_chain soup) (text_lines (logical_lines (first + 1) (slice_range all first after)))) m)
+  at_inner past m = search (rules, left_same, marks_are)
 
 -- Before the first line.
 pub at_first : (soup : FaceSet) (mesh : Faces) (all : Lines) (first after count : ℕ) (reader : MarkReader)
     → first ≤ after → mesh ≡ soup.faces → length soup.names ≤ MAX_V_LINES
     → count ≡ count_by is_vertex_line (logical_lines (first + 1) (slice_range all first after))
     → IsBegun mesh count reader → IsAtLine soup mesh all first first after reader
-at_first soup mesh all first after count reader order same few is begun = record {
-  within = order;
-  left = left_begun soup mesh (logical_lines (first + 1) (slice_range all first after)) reader same few
-      (rw (← is) begun);
-}
+at_first soup mesh all first after count reader order same few is begun = search rules
 
 -- The `v` lines before line i are counted.
 pub record IsCounted (all : Lines) (first i after count : ℕ) : Type 0 where

@@ -1,6 +1,6 @@
 -- The corners of a line, word by word.
-use Rattle.std.proofs.Common.{Bool, List, Some, cond, drop, eqb, false, length, map, sym, take, true, ◌&&◌, ◌++◌, ◌+◌}
-use Rattle.std.proofs.Common.{[], ◌∙◌, ◌∷◌, ◌≡◌, ap, ℕ, arith, get_or, refl, suc, ◌<◌, MatchOption, None, Option}
+use Rattle.std.proofs.Common.{rules, Bool, List, Some, cond, drop, eqb, false, length, map, sym, take, true, ◌&&◌, ◌++◌}
+use Rattle.std.proofs.Common.{◌+◌, [], ◌∙◌, ◌∷◌, ◌≡◌, ap, ℕ, arith, get_or, refl, suc, ◌<◌, MatchOption, None, Option}
 use Rattle.std.proofs.Common.{is_some, length-drop, ◌-◌, ◌^◌, ◌≤◌}
 use Rattle.std.proofs.lemmas.List.Splits.{length-slice_split, slice_split_first, slice_split_none}
 use Rattle.std.proofs.{lemmas.List.append_assoc, lemmas.List.drop-drop, lemmas.List.take_all, lemmas.Bool.cond-false}
@@ -30,18 +30,11 @@ module _ (all before : ℕ) (text rest after : List ℕ) (word : Word) (indices 
     -- One corner more.
     pub read_more : (index : Index) → (is_line_corner word ≡ true) × (index ≡ corner_index all before word)
         → IsReadTo all before text after (indices ++ index ∷ [])
-    read_more index is = record {
-      passed = sym (ap (list_all is_line_corner) next ∙ ap (λ b. b && list_all is_line_corner (words after)) is.0)
-          ∙ to.passed;
-      items = append_assoc indices (index ∷ []) (map (corner_index all before) (words after))
-          ∙ (ap (λ i. indices ++ i ∷ map (corner_index all before) (words after)) is.1
-          ∙ (ap (λ ws. indices ++ map (corner_index all before) ws) (sym next) ∙ to.items));
-    }
+    read_more index is = search (rules, append_assoc)
 
     -- A word that is none.
     pub read_bad : is_line_corner word ≡ false → false ≡ list_all is_line_corner (words text)
-    read_bad off = sym (ap (list_all is_line_corner) next ∙ ap (λ b. b && list_all is_line_corner (words after)) off)
-        ∙ to.passed
+    read_bad off = search rules
 
 -- The parts of a word before and behind its first slash.
 pub behind_slash : (p : ℕ → Bool) (word : Word) → drop 1 (drop (position_or_len p word) word) ≡ after_first p word
@@ -50,14 +43,7 @@ behind_slash p word = drop-drop 1 (position_or_len p word) word
 -- A word by these parts.
 pub corner_found : (word first tail : List ℕ) (p : ℕ) → p ≡ position_or_len is_slash word → first ≡ take p word → tail
     ≡ drop p word → (is_line_corner word ≡ (is_signed first && is_optional (drop 1 tail))) × (used_index word ≡ first)
-corner_found word first tail p at front back =
-    let head : used_index word ≡ first = sym (front ∙ ap (λ n. take n word) at) in
-    let rest : drop 1 tail ≡ after_first is_slash word = ap (drop 1) (back ∙ ap (λ n. drop n word) at)
-    ∙ behind_slash is_slash word in (
-      ap (λ xs. is_signed xs && is_optional (after_first is_slash word)) head
-          ∙ ap (λ xs. is_signed first && is_optional xs) (sym rest),
-      head,
-    )
+corner_found word first tail p at front back = search (rules, behind_slash)
 
 -- The first word of a line.
 
@@ -83,10 +69,7 @@ module _ (text front behind : Bytes) (i : ℕ) (at : i ≡ position_or_len (λ b
     ≡ take i text) (back : behind ≡ drop i text) where
   -- A text without a blank is one piece.
   pub one_piece : length behind < 1 → pieces_of text ≡ text ∷ []
-  one_piece none =
-      let long : length text ≤ i = omega (arith, length-drop i text, ap length back) in
-      slice_split_none (λ b. eqb b 32) text (λ k d l. fails_before_first (λ b. eqb b 32) text k d
-      (omega arith))
+  one_piece none = search (rules, length-drop, slice_split_none, fails_before_first)
 
   -- And else its first piece ends at the first.
   pub first_piece : 1 ≤ length behind → pieces_of text ≡ front ∷ pieces_of (take (length behind - 1) (drop 1 behind))

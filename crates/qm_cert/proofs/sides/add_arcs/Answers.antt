@@ -1,4 +1,4 @@
-use Rattle.{std.proofs.Common.arith, qm_cert.proofs.Checked.sides_low, qm_cert.proofs.Checked.sides_more}
+use Rattle.{std.proofs.Common.arith, qm_cert.proofs.Checked.sides_low}
 use Rattle.qm_cert.proofs.sides.add_arcs.Goals as goal
 
 pub add_arc-requires-clause-small : goal.add_arc-requires-clause-small
@@ -11,9 +11,3 @@ add_arc-requires-clause-small c =
       lengths.net.bounds.few,
       lengths.all.count,
     )
-
-pub loop-k-preserved : goal.loop-k-preserved
-loop-k-preserved c =
-    let lengths = c.args.lengths.now in
-    sides_more lengths.net.whole.now.nodes lengths.net.whole.now.arcs.items lengths.x.now c.args.plus c.loop-k.k
-    c.loop-k.sums c.add_arc.new.sums c.loop-k.invariant (rw (← c.arc.ensures.value) c.add_arc.ensures)

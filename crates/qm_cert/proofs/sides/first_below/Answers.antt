@@ -1,7 +1,6 @@
-use Rattle.std.proofs.Common.{◌≡◌, ℕ, ◌<◌, List, true, sym, length, slice_index, nat_lt, lt-ltb, ◌∙◌, ap, arith}
-use Rattle.std.proofs.lemmas.List.{get_or_default}
+use Rattle.std.proofs.Common.{rules, ◌≡◌, ℕ, ◌<◌, List, true, sym, length, slice_index, nat_lt, lt-ltb, ◌∙◌, ap, arith}
+use Rattle.{std.proofs.lemmas.List.get_or_default, def_flow.specs.Network.arc_at, def_flow.specs.declared.net.Arc.Arc}
 use Rattle.qm_dual.proofs.Gathered.{least_none, least_some}
-use Rattle.def_flow.specs.{Network.arc_at, declared.net.Arc.Arc}
 use Rattle.qm_cert.proofs.sides.first_below.Goals as goal
 
 pub returns-then-entry-from-clause-least : goal.returns-then-entry-from-clause-least
@@ -17,7 +16,4 @@ returns-then-entry-from-clause-least c =
     sym (least_some (λ k. nat_lt (slice_index xs k) (arc_at arcs k).floor) (length arcs) k low c.loop-k.invariant on)
 
 pub returns-clause-least : goal.returns-clause-least
-returns-clause-least c =
-    let arcs : List Arc = c.args.lengths.now.net.whole.now.arcs.items in
-    sym (least_none (λ k. nat_lt (slice_index c.args.lengths.now.x.now k) (arc_at arcs k).floor) (length arcs)
-    (λ k l. c.loop-k.invariant k (omega (arith, c.args.lengths.now.all.count))))
+returns-clause-least c = search (rules, least_none)

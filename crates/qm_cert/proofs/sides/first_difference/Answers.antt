@@ -1,4 +1,4 @@
-use Rattle.std.proofs.Common.{◌≡◌, ◌==◌, ℕ, List, not, true, sym, ap, length, slice_index, ne_eqb, arith}
+use Rattle.std.proofs.Common.{rules, ◌≡◌, ◌==◌, ℕ, List, not, true, sym, ap, length, slice_index, ne_eqb}
 use Rattle.qm_dual.proofs.Gathered.{least_none, least_some}
 use Rattle.qm_cert.proofs.sides.first_difference.Goals as goal
 
@@ -12,8 +12,4 @@ returns-then-sum-sides-clause-least c =
     c.loop-v.invariant on)
 
 pub returns-clause-least : goal.returns-clause-least
-returns-clause-least c =
-    let plus : List ℕ = c.args.sides.now.plus.now in
-    let minus : List ℕ = c.args.sides.now.minus.now in
-    sym (least_none (λ v. not (slice_index plus v == slice_index minus v)) (length plus)
-    (λ v l. c.loop-v.invariant v (omega arith)))
+returns-clause-least c = search (rules, least_none)

@@ -1,22 +1,15 @@
-use Rattle.std.proofs.Common.{List, ap, append_assoc, subst, sym, ◌++◌, ◌∙◌, ◌≡◌}
-use Rattle.std.proofs.lemmas.Result.{on_ok_weaker}
-use Rattle.def_certtext.specs.CertLines.{HasUps, cert_lines, certificates_of, lists_of, risen_by, said_by, text_of}
-use Rattle.def_certtext.specs.CertLines.{Lists, alone}
+use Rattle.std.proofs.Common.{rules, List, ap, append_assoc, sym, ◌++◌, ◌∙◌, ◌≡◌}
+use Rattle.{std.proofs.lemmas.Result.on_ok_weaker, def_io.specs.Bytes.Bytes, qm_certtext.specs.RoundLines.round_lines}
+use Rattle.def_certtext.specs.CertLines.{cert_lines, certificates_of, lists_of, said_by, text_of, alone}
 use Rattle.def_certtext.specs.{Laws.chosen_lines, declared.certs.Certs.Certs, declared.certs.Round.Round}
 use Rattle.qm_certtext.proofs.Texts.{round_lines_are, text_both, ups_rounds, ups_used, used_risen}
-use Rattle.{def_io.specs.Bytes.Bytes, qm_certtext.specs.RoundLines.round_lines, qm_certtext.specs.RoundLines.HaveUps}
 use Rattle.qm_certtext.proofs.certs.push_chosen.Goals as goal
 
 pub push_rounds-requires : goal.push_rounds-requires
-push_rounds-requires c = rw c.deref.ensures.value (ups_rounds c.in-Risen.rounds.items (alone (lists_of c.in-Risen.cert))
-    (subst (λ (certs : Certs). HaveUps (certificates_of certs)) c.in-Risen.is c.requires))
+push_rounds-requires c = search (rules, ups_rounds)
 
 pub push_cert-requires-in-Risen : goal.push_cert-requires-in-Risen
-push_cert-requires-in-Risen c =
-    let after = alone (lists_of c.in-Risen.cert) in
-    subst (λ (lists : Lists). HasUps lists) (used_risen c.in-Risen.rounds.items after)
-    (ups_used (risen_by c.in-Risen.rounds.items after)
-    (subst (λ (certs : Certs). HaveUps (certificates_of certs)) c.in-Risen.is c.requires))
+push_cert-requires-in-Risen c = search (rules, used_risen, ups_used)
 
 pub returns-in_ok-push_rounds-in-Risen : goal.returns-in_ok-push_rounds-in-Risen
 returns-in_ok-push_rounds-in-Risen c =

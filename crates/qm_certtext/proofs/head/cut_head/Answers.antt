@@ -1,16 +1,14 @@
-use Rattle.qm_certtext.proofs.Cutting.{cut_of, no_floor, no_prefix, stripped}
+use Rattle.std.proofs.Common.{rules}
+use Rattle.qm_certtext.proofs.Cutting.{no_floor, not_stripped, stripped}
 use Rattle.qm_certtext.proofs.head.cut_head.Goals as goal
 
 pub returns-in_default : goal.returns-in_default
-returns-in_default c = no_prefix c.args.prefix.now c.args.line.now c.in_default.ensures.cases
+returns-in_default c scale floor weight cut = search (rules, not_stripped)
 
 pub returns-in-Some-cut_word-2 : goal.returns-in-Some-cut_word-2
-returns-in-Some-cut_word-2 c = cut_of c.args.prefix.now c.args.line.now c.in-Some.rest.now c.in-Some-cut_word.scale.now
-    c.in-Some-cut_word.rest.now _ _ (stripped c.args.prefix.now c.args.line.now c.in-Some.rest.now
-    c.in-Some.ensures.cases.0 c.in-Some.ensures.cases.1) c.in-Some-cut_word.ensures.0 c.in-Some-cut_word.ensures.1
-    c.in-Some-cut_word-2.ensures.0 c.in-Some-cut_word-2.ensures.1
+returns-in-Some-cut_word-2 c = search (rules, stripped)
 
 pub returns-in-None : goal.returns-in-None
-returns-in-None c = no_floor c.args.prefix.now c.args.line.now c.in-Some.rest.now c.in-Some-cut_word.scale.now
-    c.in-Some-cut_word.rest.now (stripped c.args.prefix.now c.args.line.now c.in-Some.rest.now c.in-Some.ensures.cases.0
-    c.in-Some.ensures.cases.1) c.in-Some-cut_word.ensures.0 c.in-Some-cut_word.ensures.1 c.in-None.ensures
+returns-in-None c = let first = c.in-Some-cut_word.ensures in
+    no_floor _ _ _ _ _ (stripped _ _ _ c.in-Some.ensures.cases.0 c.in-Some.ensures.cases.1) first.0 first.1
+    c.in-None.ensures

@@ -1,10 +1,13 @@
-use Rattle.qm_certtext.proofs.Cutting.{behind_is, not_stripped, stripped, word_bare}
-use Rattle.std.proofs.{Common.◌++◌, Common.sym, Common.◌∙◌, Common.ap₂, lemmas.List.take-append-drop}
+use Rattle.qm_certtext.proofs.Cutting.{behind_is, not_stripped, prefix_bare, stripped}
+use Rattle.qm_certtext.specs.Cuts.{is_bare}
+use Rattle.std.proofs.{Common.◌++◌, Common.sym, Common.◌∙◌, Common.ap₂, Common.ap, Common.take, Common.ℕ}
+use Rattle.std.proofs.{lemmas.List.take-append-drop}
 use Rattle.qm_certtext.proofs.head.cut_word.Goals as goal
 
 pub returns-in-Some : goal.returns-in-Some
 returns-in-Some c = (
-  word_bare c.args.text.now c.split_at.result.0.now _ c.find_byte.ensures.exact c.split_at.ensures.front,
+  ap is_bare (c.split_at.ensures.front ∙ ap (λ (k : ℕ). take k c.args.text.now) c.find_byte.ensures.exact)
+      ∙ prefix_bare c.args.text.now,
   sym (take-append-drop c.find_byte.result c.args.text.now)
       ∙ ap₂ ◌++◌ (sym c.split_at.ensures.front) (sym c.split_at.ensures.back ∙ stripped c.args.mark.now
       c.split_at.result.1.now c.in-Some.rest.now c.in-Some.ensures.cases.0 c.in-Some.ensures.cases.1),

@@ -1,7 +1,6 @@
 use Rattle.qm_certtext.proofs.Counts.{both_read, no_behind, no_number, no_up, some_behind}
 use Rattle.std.proofs.{Common.arith, Common.length, Common.sym, Common.◌≡◌, lemmas.Bool.eqb-true, lemmas.Int.ints}
-use mir.Syntax.{w64}
-use mir.Val.{of_z, to_z}
+use mir.{Syntax.w64, Val.of_z, Val.to_z}
 use Rattle.qm_certtext.proofs.numbers.read_numbered.Goals as goal
 
 pub returns-then-is_empty : goal.returns-then-is_empty

@@ -1,14 +1,19 @@
-use Rattle.std.proofs.{Common.arith, Common.length, Common.sym, lemmas.Bool.eqb-true}
-use Rattle.qm_certtext.proofs.Counts.{rise_no_arc, rise_no_behind, rise_no_floor, rise_not_zero, rise_read, some_behind}
+use Rattle.std.proofs.Common.{arith, drop, pos, ◌+◌, length, sym, ap, ◌∙◌}
+use Rattle.{std.proofs.lemmas.Bool.eqb-true, def_certtext.specs.declared.certs.Rising.TheVariants.Rounds}
+use Rattle.qm_certtext.proofs.Counts.{no_behind, rise_low, rise_not_zero, rise_parts, rise_read, rise_small}
+use Rattle.qm_certtext.proofs.Counts.{some_behind}
 use Rattle.qm_certtext.proofs.numbers.read_rise.Goals as goal
 
 pub returns-then-is_empty : goal.returns-then-is_empty
-returns-then-is_empty c = rise_no_behind c.find_byte.ensures.exact c.split_at.ensures.front c.split_at.ensures.back
-    (eqb-true (length c.split_at.result.1.now) 0 (sym c.if-is_empty.ensures))
+returns-then-is_empty c rise may = no_behind c.find_byte.ensures.exact c.split_at.ensures.front c.split_at.ensures.back
+    (eqb-true (length c.split_at.result.1.now) 0 (sym c.if-is_empty.ensures)) (pos (rise.arc + 1)) rise.floor
+    (rise_small Rounds rise may)
 
 pub returns-in_default : goal.returns-in_default
-returns-in_default c = rise_no_floor c.find_byte.ensures.exact c.split_at.ensures.front c.split_at.ensures.back
-    c.behind_first.result.now c.behind_first.ensures (λ n low is. c.in_default.ensures n (omega arith) is)
+returns-in_default c rise may is =
+    let parts = rise_parts c.find_byte.ensures.exact c.split_at.ensures.front c.split_at.ensures.back rise may is in
+    c.in_default.ensures rise.floor (omega (arith, (rise_low Rounds rise may).1))
+    (c.behind_first.ensures ∙ ap (drop 1) parts.1)
 
 pub returns-in-Some-read_count : goal.returns-in-Some-read_count
 returns-in-Some-read_count c = rise_read c.find_byte.ensures.exact c.split_at.ensures.front c.split_at.ensures.back
@@ -21,5 +26,6 @@ returns-in_default-read_count c = rise_not_zero c.find_byte.ensures.exact c.spli
     c.split_at.ensures.back c.in-Some-read_count.number (omega arith) c.in-Some-read_count.ensures.1
 
 pub returns-in_default-read_count-2 : goal.returns-in_default-read_count-2
-returns-in_default-read_count-2 c = rise_no_arc c.find_byte.ensures.exact c.split_at.ensures.front
-    c.split_at.ensures.back c.in_default-read_count.ensures
+returns-in_default-read_count-2 c rise may is =
+    let parts = rise_parts c.find_byte.ensures.exact c.split_at.ensures.front c.split_at.ensures.back rise may is in
+    c.in_default-read_count.ensures (rise.arc + 1) (omega (arith, (rise_low Rounds rise may).0)) parts.0

@@ -1,17 +1,11 @@
-use Rattle.std.proofs.Common.{◌≡◌, ◌/◌, ◌^◌, ◌<◌, ltb, length, get_or, sym, ap, ◌∙◌, arith}
+use Rattle.std.proofs.Common.{rules, ◌≡◌, ◌/◌, ◌^◌, ◌<◌, ltb, length, get_or, ap, ◌∙◌}
 use Rattle.def_mesh.specs.{Darts.darts, Vertices.faces_at, Vertices.vertex_count}
 use Rattle.qm_marks.specs.{Keys.key_of, declared.ends.TheConstants.FEW}
-use Rattle.qm_marks.proofs.ends.dart_in_table.Goals.{After-place_of-place}
-use Rattle.qm_marks.proofs.ends.dart_in_table.Goals.{else-place-keys-via-then-place-keys+else-keys-place}
-use Rattle.qm_marks.proofs.ends.dart_in_table.Goals.{else-place-keys-via-else-place-keys}
-use Rattle.qm_marks.proofs.EdgeMarks.{in_table, not_in_table}
+use Rattle.qm_marks.proofs.{ends.dart_in_table.Goals.After-place_of-place, EdgeMarks.in_table, EdgeMarks.not_in_table}
 use Rattle.qm_marks.proofs.ends.dart_in_table.Goals as goal
 
 small : (c : After-place_of-place) → (vertex_count c.args.mesh.now < 2 ^ 32) × (darts c.args.mesh.now < 2 ^ 32)
-small c = (
-  omega arith,
-  omega arith,
-)
+small c = search rules
 
 pub returns-then-keys-place-clause-some : goal.returns-then-keys-place-clause-some
 returns-then-keys-place-clause-some c =
@@ -31,8 +25,4 @@ returns-else-place-keys-clause-none c none =
   where
     other : (c.place_of-place.result < length c.args.keys.now)
         → get_or c.args.keys.now c.place_of-place.result 0 / 2 ^ 32 ≡ key_of c.args.u c.args.v 0 / 2 ^ 32 → ⊥
-    other = elim c.else-place-keys.branch [
-      | else-place-keys-via-then-place-keys+else-keys-place w ↦
-          λ l e. w.if-keys-place.false (e ∙ sym (ap (λ x. x / 2 ^ 32) c.key_for-key.ensures))
-      | else-place-keys-via-else-place-keys w ↦ λ l e. absurd (omega arith)
-    ]
+    other = search rules

@@ -1,14 +1,7 @@
-use Rattle.std.proofs.Common.{ℕ, Ok, Err, Result, subst, inl, inr}
+use Rattle.std.proofs.Common.{ℕ, Err, Result, subst, inl, inr}
 use Rattle.std.proofs.{Common.arith, lemmas.Bool.cases_lt, lemmas.List.Sorted.searched}
 use Rattle.std.specs.{Ordering.nat_cmp, List.Sorted.IsBinarySearchResult}
 use Rattle.qm_marks.proofs.ends.place_of.Goals as goal
-
-pub returns-in-Ok : goal.returns-in-Ok
-returns-in-Ok c k low above =
-    let at = searched c.args.keys.now c.args.key (Ok c.in-Ok.place)
-    (subst (λ (r : Result ℕ ℕ). IsBinarySearchResult (λ y. nat_cmp y c.args.key) c.args.keys.now r) c.in-Ok.is
-    c.binary_search.ensures.position) (λ i j le l. c.requires i j 0 le l) in
-    (at.0, omega arith, omega arith)
 
 pub returns-in-Err : goal.returns-in-Err
 returns-in-Err c k low above =

@@ -1,5 +1,4 @@
-use Rattle.std.proofs.lemmas.List.Sorted.{IsNonDecreasingBy-from_sort}
+use Rattle.std.proofs.{Common.rules, lemmas.List.Sorted.IsNonDecreasingBy-from_sort}
 
 pub returns-clause-rising : Rattle.qm_marks.proofs.ends.sort.Goals.returns-clause-rising
-returns-clause-rising c = IsNonDecreasingBy-from_sort (λ key. key) c.sort_unstable.new.self.items
-    c.sort_unstable.ensures.sorted
+returns-clause-rising c = search (rules, IsNonDecreasingBy-from_sort)

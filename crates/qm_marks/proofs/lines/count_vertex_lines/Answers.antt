@@ -1,4 +1,4 @@
-use Rattle.std.proofs.Common.{ap, arith, cond, ◌+◌, ◌∙◌, ◌≡◌}
+use Rattle.std.proofs.Common.{rules, ap, cond, ◌+◌, ◌∙◌, ◌≡◌}
 use Rattle.qm_marks.proofs.{LineMarks.counted_next, lines.count_vertex_lines.Goals.After-drop-joined}
 use Rattle.qm_obj.proofs.Groups.{group_span, single_span, single_text, span_within, group_text}
 use Rattle.{std.specs.Prelude.slice_range, qm_obj.specs.Ahead.span, qm_obj.specs.Ahead.text_ahead}
@@ -7,13 +7,10 @@ use Rattle.qm_marks.proofs.lines.count_vertex_lines.Goals as goal
 
 next : (c : After-drop-joined) → c.in_ok-joined.joined.next
     ≡ c.loop-i.i + span (slice_range (lines_of c.args.lines.now) c.loop-i.i c.args.after)
-next c = c.in_ok-joined.ensures.next
-    ∙ ap (λ n. c.loop-i.i + n) (group_span (slice_range (lines_of c.args.lines.now) c.loop-i.i c.args.after))
+next c = search (rules, group_span)
 
 pub loop-i-smaller-then-may_go_on : goal.loop-i-smaller-then-may_go_on
-loop-i-smaller-then-may_go_on c =
-    let within = span_within (lines_of c.args.lines.now) c.loop-i.i c.args.after c.loop-i-test.true c.requires.within in
-    omega (arith, next c)
+loop-i-smaller-then-may_go_on c = search (rules, span_within, next)
 
 pub loop-i-preserved-then-may_go_on : goal.loop-i-preserved-then-may_go_on
 loop-i-preserved-then-may_go_on c =

@@ -1,6 +1,5 @@
+use Rattle.{std.proofs.Common.rules, qm_obj.proofs.Groups.span_within, error_laws.proofs.Errors.handed}
 use Rattle.qm_marks.proofs.LineMarks.{at_end, at_inner, at_next, at_refused, at_room}
-use Rattle.qm_obj.proofs.Groups.{span_within}
-use Rattle.{std.proofs.Common.arith, def_io.specs.Lines.lines_of, error_laws.proofs.Errors.handed}
 use Rattle.qm_marks.proofs.lines.read_marks.Goals as goal
 
 pub take_logical-requires-clause-room : goal.take_logical-requires-clause-room
@@ -11,9 +10,7 @@ returns-in_err-i-clause-refused c = handed _ _ _ c.from_residual-in_err-i.ensure
     at_refused c.loop-i.invariant c.loop-i-test.true c.requires.within _ (c.in_err-i.ensures.refused other))
 
 pub loop-i-smaller : goal.loop-i-smaller
-loop-i-smaller c =
-    let within = span_within (lines_of c.args.lines.now) c.loop-i.i c.args.after c.loop-i-test.true c.requires.within in
-    omega (arith, c.in_ok-i.ensures.next, within.0, within.1)
+loop-i-smaller c = search (rules, span_within)
 
 pub loop-i-preserved : goal.loop-i-preserved
 loop-i-preserved c =

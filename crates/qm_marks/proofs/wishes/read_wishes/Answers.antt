@@ -1,8 +1,7 @@
-use Rattle.qm_marks.proofs.AllWishes.{at_last, at_other, at_small, at_wish, first_lines, line_in, low_in}
+use Rattle.std.proofs.Common.{rules, ap, arith, drop, length, ◌∙◌, ◌≡◌}
+use Rattle.qm_marks.proofs.AllWishes.{at_last, at_other, at_small, at_wish, line_in, low_in}
 use Rattle.qm_marks.proofs.wishes.{read_wishes.Goals.in-Some+in_ok-take_wish, read_wishes.Goals.in_default}
-use Rattle.std.proofs.Common.{ap, arith, drop, length, length-take, ◌∙◌, ◌≡◌}
-use Rattle.{def_fit.specs.WishLines.vertex_line_count, def_io.specs.Lines.lines_of, std.proofs.lemmas.List.take_at}
-use Rattle.{def_mesh.specs.Darts.darts}
+use Rattle.{std.proofs.lemmas.List.take_at, def_mesh.specs.Darts.darts}
 use Rattle.qm_marks.proofs.wishes.read_wishes.Goals as goal
 
 pub loop-i-preserved : goal.loop-i-preserved
@@ -24,10 +23,7 @@ loop-i-preserved c =
     ]
 
 pub returns-clause-wishes : goal.returns-clause-wishes
-returns-clause-wishes c = at_last c.loop-i.invariant
-    (omega (arith, length-take c.args.after (lines_of c.args.lines.now)))
-    (c.in_ok-count_vertex_lines.ensures ∙ ap vertex_line_count (first_lines (lines_of c.args.lines.now) c.args.after))
+returns-clause-wishes c = search (rules, at_last)
 
 pub returns-clause-small : goal.returns-clause-small
-returns-clause-small c = at_small c.loop-i.invariant
-    (omega (arith, length-take c.args.after (lines_of c.args.lines.now)))
+returns-clause-small c = search (rules, at_small)

@@ -4,13 +4,8 @@ use Rattle.{std.proofs.Common.refl, qm_certtext.specs.declared.parts.Found.Found
 pub returns : Rattle.qm_certtext.proofs.parts.Found.take_in_round.Goals.returns
 returns c =
     let ended = c.end_round.new.self in
-    let new : Found = record {
-      first = ended.first;
-      rounds = ended.rounds;
-      last = c.take.new.self;
-      rises = ended.rises;
-    } in
-    added_ok c.take.result ended.last c.take.new.self c.args.line c.take.ensures.lengths c.take.ensures.vertices
-    c.take.ensures.vertex_ups c.take.ensures.sets c.take.ensures.set_ups
+    let new : Found = record ended { last = c.take.new.self } in
+    let e = c.take.ensures in
+    added_ok c.take.result ended.last c.take.new.self c.args.line e.lengths e.vertices e.vertex_ups e.sets e.set_ups
     (λ adds. takes_plain c.args.self.now ended new c.args.line (no_rise_line c.args.line c.in_default.not-Rise)
     c.in_ok-end_round.ensures refl refl adds)

@@ -1,13 +1,11 @@
-use Rattle.std.proofs.Common.{Bool, List, Ok, arith, false, is_some, length, ltb, map, not, refl, sym, true, ◌&&◌, ◌||◌}
-use Rattle.std.proofs.Common.{ap, ◌∙◌, ◌≡◌}
-use Rattle.std.proofs.lemmas.List.{with_items_is}
-use Rattle.def_marks.specs.Lines.{corner_index, is_malformed, is_nothing, named_chain, named_vertex}
-use Rattle.def_marks.specs.Chains.{is_chain, runs_along}
-use Rattle.qm_marks.proofs.AllWishes.{fails_edge, fails_none, fails_range, indices_are, malformed_is, nothing_is}
-use Rattle.qm_marks.proofs.AllWishes.{chain_is}
+use Rattle.std.proofs.Common.{rules, Bool, List, Ok, arith, false, is_some, length, ltb, map, not, refl, sym, true}
+use Rattle.std.proofs.Common.{◌&&◌, ◌||◌, ap, ◌∙◌, ◌≡◌}
+use Rattle.{std.proofs.lemmas.List.with_items_is, def_marks.specs.Chains.is_chain, def_marks.specs.Chains.runs_along}
+use Rattle.def_marks.specs.Lines.{corner_index, is_malformed, is_nothing, named_chain}
+use Rattle.qm_marks.proofs.AllWishes.{chain_is, indices_are, malformed_is, nothing_is}
 use Rattle.qm_marks.proofs.lines.MarkReader.take_corners.Goals.{After-mark_chain, After-names_nothing}
 use Rattle.{std.specs.List.list_any, def_cut.specs.FullCut.is_on, def_mesh.specs.Darts.twin_of}
-use Rattle.{def_mesh.specs.Darts.darts, def_text.specs.FaceSet.FaceSet, def_text.specs.Words.words}
+use Rattle.{def_mesh.specs.Darts.darts, def_text.specs.Words.words}
 use Rattle.qm_marks.proofs.lines.MarkReader.take_corners.Goals as goal
 
 -- What is known of the corners once they are read.
@@ -38,20 +36,13 @@ known c =
 pub returns-then-names_nothing-clause-refused : goal.returns-then-names_nothing-clause-refused
 returns-then-names_nothing-clause-refused c other =
     let k = known (goal.at.returns-then-names_nothing-clause-refused c).After-names_nothing in
-    fails_range c.args.soup.now c.args.self.now.all c.args.self.now.before c.args.number (words c.args.text.now) k.0
-    (sym k.2 ∙ c.if-names_nothing.true)
+    rw (k.0, sym k.2 ∙ c.if-names_nothing.true) refl
 
 -- The chain whose edges are marked.
 chain : (c : After-mark_chain) → c.read_corners.new.indices.items
     ≡ map (corner_index c.args.self.now.all c.args.self.now.before) (words c.args.text.now) → c.deref-5.result.now
     ≡ named_chain c.args.soup.now.names c.args.self.now.all c.args.self.now.before (words c.args.text.now)
-chain c they =
-    let names : c.deref-2.result.now ≡ c.args.soup.now.names = c.deref-2.ensures.value
-    ∙ ap (λ (s : FaceSet). s.names) c.soup.view_is in
-    c.deref-5.ensures.value
-    ∙ chain_is c.args.soup.now.names c.args.self.now.all c.args.self.now.before (words c.args.text.now)
-    c.read_corners.new.indices.items c.named_vertices.new.chain.items they
-    (c.in_ok-named_vertices.ensures ∙ (λ i. map (named_vertex (names i)) (c.deref-3.ensures.value i)))
+chain c they = search (rules, chain_is)
 
 -- Whether it is one.
 linked : (c : After-mark_chain) → c.read_corners.new.indices.items
@@ -63,9 +54,8 @@ linked c they = sym (c.mark_chain.ensures.chain ∙ (λ i. is_chain (c.requires.
 pub returns-then-not-mark_chain-clause-refused : goal.returns-then-not-mark_chain-clause-refused
 returns-then-not-mark_chain-clause-refused c other =
     let k = known (goal.at.returns-then-not-mark_chain-clause-refused c).After-names_nothing in
-    fails_edge c.args.soup.now c.args.self.now.all c.args.self.now.before c.args.number (words c.args.text.now) k.0
-    (sym k.2 ∙ c.if-names_nothing.false)
-    (linked (goal.at.returns-then-not-mark_chain-clause-refused c).After-mark_chain k.1 ∙ c.if-not-mark_chain.true)
+    let at = (goal.at.returns-then-not-mark_chain-clause-refused c).After-mark_chain in
+    rw (k.0, sym k.2 ∙ c.if-names_nothing.false, linked at k.1 ∙ c.if-not-mark_chain.true) refl
 
 pub returns-clause-took : goal.returns-clause-took
 returns-clause-took c =
@@ -74,8 +64,7 @@ returns-clause-took c =
     let items = with_items_is c.args.self.now.marks c.mark_chain.new.marks (c.mark_chain.auto.marks
     ∙ c.deref_mut.ensures.len) in
     record {
-      accepted = fails_none c.args.soup.now c.args.self.now.all c.args.self.now.before c.args.number
-          (words c.args.text.now) k.0 (sym k.2 ∙ c.if-names_nothing.false) (linked at k.1 ∙ c.if-not-mark_chain.false);
+      accepted = rw (k.0, sym k.2 ∙ c.if-names_nothing.false, linked at k.1 ∙ c.if-not-mark_chain.false) refl;
       same = record {
         all = refl;
         keys = refl;
