@@ -1,8 +1,7 @@
 -- The steps round a face.
-use Rattle.std.proofs.Common.{◌≡◌, ℕ, ◌+◌, ◌/◌, ◌%◌, ◌-◌, ◌<◌, ◌≤◌, ap, ◌∙◌, arith, ◌≢◌, ◌⊎◌, zero, suc, Bool, true}
-use Rattle.std.proofs.Common.{false, not, [], ◌∷◌, sym, subst, refl, inl, inr, eqb, List, length, get_or, Some, None}
-use Rattle.std.proofs.lemmas.Bool.{cases_lt, cases_eq, eq-eqb, eqb-true, and_parts, and_from, false_from_ne_true}
-use Rattle.std.proofs.lemmas.Bool.Decides.{nat_tests}
+use Rattle.std.proofs.Common.{rules, ◌≡◌, ℕ, ◌+◌, ◌/◌, ◌%◌, ◌-◌, ◌<◌, ◌≤◌, ap, ◌∙◌, arith, ◌≢◌, ◌⊎◌, zero, suc, Bool}
+use Rattle.std.proofs.Common.{true, false, not, [], ◌∷◌, sym, subst, refl, inl, inr, List, length, get_or, Some, None}
+use Rattle.std.proofs.lemmas.Bool.{cases_lt, cases_eq, eq-eqb, eqb-true, and_parts, and_from, Decides.nat_tests}
 use Rattle.def_mesh.specs.Darts.{darts, next_of, prev_of, from_of, to_of, IsTwin, is_reverse, twin_of}
 use Rattle.def_mesh.specs.Manifold.{IsRepeatFree, HasEdgesOnce, AreNeighbours, Chain, meet}
 use Rattle.def_mesh.specs.{Faces.Faces, Faces.corner, Vertices.fan_of, HalfEdges.AreTurned, HalfEdges.Turns}
@@ -30,9 +29,6 @@ next_face d = grind (arith, nat_tests)
 pub next_place : (d : ℕ) → d % 4 < 3 → next_of d % 4 ≡ d % 4 + 1
 next_place d l = grind (arith, nat_tests)
 
-pub next_first : (d : ℕ) → d % 4 ≡ 3 → next_of d % 4 ≡ 0
-next_first d e = grind (arith, nat_tests)
-
 pub two_on : (d : ℕ) → (d % 4 < 2 → next_of (next_of d) % 4 ≡ d % 4 + 2)
     × (2 ≤ d % 4 → next_of (next_of d) % 4 ≡ d % 4 - 2)
 two_on d = (λ l. grind (arith, nat_tests), λ l. grind (arith, nat_tests))
@@ -52,14 +48,7 @@ before_low faces d e is l = omega (arith, is, prev_of_low faces d l)
 
 -- The ends of a dart differ.
 pub ends_differ : (faces : Faces) → IsRepeatFree faces → (d : ℕ) → d < darts faces → from_of faces d ≢ to_of faces d
-ends_differ faces free d l same = elim (cases_lt (d % 4) 3) [
-  | inl b ↦ free (d / 4) (d % 4) (d % 4 + 1) (omega arith) (omega arith) (omega arith) (same
-      ∙ ap (λ f. corner faces f (next_of d % 4)) (next_face d) ∙ ap (corner faces (d / 4)) (next_place d b))
-  | inr b ↦ let three : d % 4 ≡ 3 = omega arith in
-      free (d / 4) 0 3 (omega arith) (omega arith) (omega arith)
-      (sym (ap (λ f. corner faces f (next_of d % 4)) (next_face d) ∙ ap (corner faces (d / 4)) (next_first d three))
-      ∙ sym same ∙ ap (corner faces (d / 4)) three)
-]
+ends_differ faces free d l same = search rules
 
 -- Corner e lies beside d: behind the edge of the dart before d to the left, behind that of d to the right.
 abbrev pub Step : Faces → Bool → ℕ → ℕ → Type 0
@@ -156,16 +145,7 @@ pub record IsFan (faces : Faces) (v : ℕ) (fan : List ℕ) : Type 0 where
   pub increasing : (s t : ℕ) → s < t → t < length fan → get_or fan s 0 < get_or fan t 0
 
 pub fan_of_is : (faces : Faces) (v : ℕ) → IsFan faces v (fan_of faces v)
-fan_of_is faces v =
-    let leaves = λ (d : ℕ). eqb (from_of faces d) v in
-    let kept = kept_at leaves 0 (darts faces) in
-    record {
-      dart = λ t l. omega (arith, (kept t l).high);
-      leaves = λ t l. eqb-true _ v (kept t l).passes;
-      place = λ d l e. place_of leaves 0 (darts faces) d
-          (record { low = omega arith; high = omega arith; passes = eq-eqb _ v e });
-      increasing = rises leaves 0 (darts faces);
-    }
+fan_of_is faces v = search (rules, kept_at, place_of, rises)
 
 pub is_fan : (faces : Faces) (v : ℕ) (fan : List ℕ) → fan ≡ fan_of faces v → IsFan faces v fan
 is_fan faces v fan e = subst (λ (xs : List ℕ). IsFan faces v xs) (sym e) (fan_of_is faces v)
@@ -198,13 +178,11 @@ twin_found faces once d e is = find_one (is_reverse faces d) 0 (darts faces) e (
     once y e t.0 is.0 (t.1 ∙ sym is.1, t.2 ∙ sym is.2))
 
 pub twin_none : (faces : Faces) (d : ℕ) → ((e : ℕ) → ¬ IsTwin faces d e) → twin_of faces d ≡ None
-twin_none faces d none = find_none (is_reverse faces d) 0 (darts faces)
-    (λ x l h. false_from_ne_true (is_reverse faces d x) (λ r. none x (reverse_twin faces d x (omega arith) r)))
+twin_none faces d none = search (rules, find_none)
 
 -- What is told to be the twin has the ends exchanged.
 pub twin_is : (faces : Faces) (d e : ℕ) → twin_of faces d ≡ Some e → IsTwin faces d e
-twin_is faces d e t = let f = find_passes (is_reverse faces d) 0 (darts faces) e t in
-    reverse_twin faces d e (omega (arith, f.1)) f.0
+twin_is faces d e t = search (rules, find_passes)
 
 -- The half edges of a manifold list are those of a manifold of quads.
 

@@ -1,8 +1,8 @@
 -- The flood of a component is exact: it marks just the faces to which chains of shared edges lead.
-use Rattle.std.proofs.Common.{◌≡◌, ◌⊎◌, ℕ, zero, suc, ◌*◌, ◌<◌, ◌≤◌, Bool, true, false, not, cond, eqb, ◌&&◌, ◌||◌, map}
-use Rattle.std.proofs.Common.{length, sym, subst, ap, ◌∙◌, refl, inl, inr, arith, List, [], ◌∷◌, get_or}
-use Rattle.std.proofs.lemmas.Bool.{not-true, eq-eqb, eqb-true, cases_Bool, cases_lt, or_left, or_right, or_cases}
-use Rattle.std.proofs.lemmas.Bool.{and_parts, and_from, false≢true, not_from_false}
+use Rattle.std.proofs.Common.{rules, ◌≡◌, ◌⊎◌, ℕ, zero, suc, ◌*◌, ◌<◌, ◌≤◌, Bool, true, false, not, cond, eqb, ◌&&◌}
+use Rattle.std.proofs.Common.{◌||◌, map, length, sym, subst, ap, ◌∙◌, refl, inl, inr, arith, List, [], ◌∷◌, get_or}
+use Rattle.std.proofs.lemmas.Bool.{not-true, eq-eqb, eqb-true, cases_Bool, or_left, or_right, or_cases, and_parts}
+use Rattle.std.proofs.lemmas.Bool.{and_from, false≢true, not_from_false}
 use Rattle.std.proofs.{lemmas.List.length-map, lemmas.List.FromFn.length-range_with_len}
 use Rattle.std.proofs.{lemmas.List.FromFn.get_or-map-range_with_len, lemmas.List.Sums.passes_at_first}
 use Rattle.std.proofs.{lemmas.List.Sums.fails_before_first, lemmas.List.Filters.length-filter_both}
@@ -55,9 +55,7 @@ module _ (faces : Faces) where
 
   pub next_mark : (f k g : ℕ) → g < length faces → mark f (suc k) g
       ≡ (mark f k g || list_any (λ h. mark f k h && share_edge faces h g) (all_faces faces))
-  next_mark f k g l = get_or-map-range_with_len (λ x. mark f k x
-      || list_any (λ h. mark f k h && share_edge faces h x) (all_faces faces)) 0 (length faces) g g false l
-      (omega arith)
+  next_mark f k g l = search (rules, get_or-map-range_with_len)
 
   grows : (f k g : ℕ) → g < length faces → mark f k g ≡ true → mark f (suc k) g ≡ true
   grows f k g l m = next_mark f k g l ∙ or_left _ _ m
@@ -154,10 +152,7 @@ module _ (faces : Faces) where
 
   -- Faces of one component have the same.
   marks_are : (f k : ℕ) → within faces f k ≡ map (mark f k) (all_faces faces)
-  marks_are f zero = map_range_same (λ g. eqb g f) (mark f 0) 0 (length faces)
-      (λ x l h. sym (first_mark f x (omega arith)))
-  marks_are f (suc k) = map_range_same (λ g. mark f k g || list_any (λ h. mark f k h && share_edge faces h g)
-      (all_faces faces)) (mark f (suc k)) 0 (length faces) (λ x l h. sym (next_mark f k x (omega arith)))
+  marks_are f k = search (rules, map_range_same, first_mark, next_mark)
 
   pub same_component : (f g : ℕ) → f < length faces → g < length faces → is_marked (component_of faces f) g ≡ true
       → component_of faces g ≡ component_of faces f
@@ -180,10 +175,7 @@ module _ (faces : Faces) where
       ∙ length-range_with_len 0 (length faces))
 
   pub least_most : (f g : ℕ) → g < length faces → is_marked (component_of faces f) g ≡ true → least_face faces f ≤ g
-  least_most f g l m = elim (cases_lt g (least_face faces f)) [
-    | inl less ↦ absurd (false≢true (sym (fails_before_first (λ b. b) (component_of faces f) g false less) ∙ m))
-    | inr h ↦ h
-  ]
+  least_most f g l m = search (rules, fails_before_first)
 
   pub least_low : (f : ℕ) → f < length faces → least_face faces f < length faces
   least_low f l = omega (arith, least_most f f l (own_mark f l))
@@ -220,13 +212,10 @@ from_count faces = length-map (all_darts faces) (from_of faces) ∙ length-range
 
 -- Each corner is a vertex.
 pub all_below : (faces : Faces) → (d : ℕ) → d < darts faces → from_of faces d < vertex_count faces
-all_below faces d l =
-    let low = below_bound (map (from_of faces) (all_darts faces)) d (omega (arith, from_count faces)) in
-    omega (arith, from_at faces d l)
+all_below faces d l = search (rules, below_bound, from_count, from_at)
 
 pub count_least : (faces : Faces) (n : ℕ) → ((d : ℕ) → d < darts faces → from_of faces d < n) → vertex_count faces ≤ n
-count_least faces n within = least_bound (map (from_of faces) (all_darts faces)) n (λ i l.
-    let low : i < darts faces = omega (arith, from_count faces) in omega (arith, from_at faces i low, within i low))
+count_least faces n within = search (rules, least_bound, from_count, from_at)
 
 -- A fan has at most all darts.
 pub fan_short : (faces : Faces) (v : ℕ) → faces_at faces v ≤ darts faces

@@ -1,9 +1,8 @@
 -- A link of a block leads to another link, which leads back.
-use Rattle.std.proofs.Common.{◌≡◌, ℕ, ◌+◌, ◌-◌, ◌<◌, List, [], length, slice_get, slice_index_or, Some, refl, sym, ◌∙◌}
-use Rattle.std.proofs.Common.{ap, subst, inl, inr, arith, ◌≢◌, ◌⊎◌, Bool, not, ◌≤◌}
+use Rattle.std.proofs.Common.{rules, ◌≡◌, ℕ, ◌+◌, ◌-◌, ◌<◌, List, [], length, slice_get, slice_index_or, Some, refl}
+use Rattle.std.proofs.Common.{sym, ◌∙◌, ap, subst, inl, inr, arith, ◌≢◌, ◌⊎◌, Bool, not, ◌≤◌}
 use Rattle.std.proofs.lemmas.Option.{get_or_from_slice_get, none-some, same_Some, slice_get-get_or, slice_get_within}
-use Rattle.std.proofs.lemmas.Bool.Decides.{leb_tells}
-use Rattle.std.specs.List.{Contains}
+use Rattle.std.{proofs.lemmas.Bool.Decides.leb_tells, specs.List.Contains}
 use Rattle.def_layout.specs.Gluings.{Way, south, east, north, west, Gluing, Slot, IsSlot, use_of, AreReverse}
 use Rattle.def_layout.specs.{Surfaces.IsSurface, Surfaces.IsOtherSlot, Lengths.Lengths, Lengths.size}
 use Rattle.def_layout.specs.{Lengths.AreLengths, declared.tmesh.SideArc.SideArc}
@@ -15,11 +14,7 @@ use Rattle.written_laws.proofs.{Borders.use_back, Rims.border_point, Sides.reach
 
 -- An arc that is used the other way round.
 pub turned_back : (one other : SideArc) → AreReverse one other → AreReverse other one
-turned_back one other rev =
-    record { arc = sym rev.arc; turned = turned one.forward other.forward rev.turned }
-  where
-    turned : (a b : Bool) → b ≡ not a → a ≡ not b
-    turned a b e = grind arith
+turned_back one other rev = search rules
 
 pub symmetric : SymmetricLaw
 symmetric l laid one other is across = (
@@ -43,10 +38,7 @@ same_or_other l laid w v is is' same = elim (alike (use_of l w).forward (use_of 
 
 -- No slot is its own other slot.
 not_own : (l : Gluing) (w v : Slot) → IsOtherSlot l w v → w ≢ v
-not_own l w v across e = by_way (use_of l w).forward (ap (λ u. (use_of l u).forward) e ∙ across.1.turned)
-  where
-    by_way : (b : Bool) → b ≡ not b → ⊥
-    by_way b e = grind arith
+not_own l w v across e = search rules
 
 pub two_links : TwoLinksLaw
 two_links l laid arc low =
@@ -147,10 +139,7 @@ module _ (l : Gluing) (x : Lengths) (laid : IsSurface l) (links : List (List Lin
       ]
 
 pub lead_back : MutualLaw
-lead_back l x laid links are one other low low' side side' from from' len = (
-  forth l x laid links are one other low side side' from from' len,
-  forth l x laid links are other one low' side' side from' from len,
-)
+lead_back l x laid links are one other low low' side side' from from' len = search (rules, forth)
 
 -- Linked points are one vertex.
 

@@ -1,7 +1,7 @@
 -- Tables of spots: what each side puts into one, and what a whole one says.
-use Rattle.std.proofs.Common.{◌≡◌, ◌≢◌, ℕ, ◌+◌, ◌*◌, ◌<◌, Bool, true, false, not, cond, List, length, Some, None}
-use Rattle.std.proofs.Common.{Option, refl, sym, ◌∙◌, ap, subst, inl, inr, arith, [], ◌∷◌, ◌++◌, map, slice_get, get_or}
-use Rattle.std.proofs.Common.{append_assoc, length-append}
+use Rattle.std.proofs.Common.{rules, ◌≡◌, ◌≢◌, ℕ, ◌+◌, ◌*◌, ◌<◌, true, List, length, Some, None, Option, refl, sym, ◌∙◌}
+use Rattle.std.proofs.Common.{ap, subst, inl, inr, arith, [], ◌∷◌, ◌++◌, map, slice_get, get_or, append_assoc}
+use Rattle.std.proofs.Common.{length-append}
 use Rattle.std.proofs.lemmas.List.FromFn.{get_or-map-range_with_len, length-map-range_with_len, map-range_with_len_more}
 use Rattle.std.proofs.{lemmas.Bool.cases_eq, lemmas.Bool.false≢true, lemmas.List.get_or-set_other}
 use Rattle.std.proofs.{lemmas.List.get_or-set_same, lemmas.List.length-set, lemmas.Option.same_Some}
@@ -108,38 +108,21 @@ block_put l x block t0 t1 t2 t3 t4 a b c d = record {
 pub spots_more : (l : Gluing) (x : Lengths) (block : ℕ) (old new : List (Option Spot))
     → HasSpots l x (IsBefore block) old
     → HavePut l x (IsOnBlock block) old new → HasSpots l x (IsBefore (block + 1)) new
-spots_more l x block old new are more = record {
-  long = more.long ∙ are.long;
-  put = λ w slot before. elim (cases_eq w.patch block) [
-    | inl here ↦ more.put w slot here
-    | inr other ↦ more.kept (key_of (use_of l w)) (are.put w slot (omega (arith, before, other)))
-  ];
-  only = λ key spot e. elim (more.only key spot e) [ inl was ↦ are.only key spot was | inr here ↦ here ];
-}
+spots_more l x block old new are more = search rules
 
 -- Arcs in use by their places.
 pub key_low : (u : SideArc) (n : ℕ) → u.arc < n → key_of u < 2 * n
 key_low u n low = grind arith
 
-parts_same : (a b : ℕ) (f g : Bool) → 2 * a + cond f 1 0 ≡ 2 * b + cond g 1 0 → (a ≡ b) × (f ≡ g)
-parts_same a b f g e = grind arith
-
 key_same : (u v : SideArc) → key_of u ≡ key_of v → u ≡ v
-key_same u v e = let same = parts_same u.arc v.arc u.forward v.forward e in
-    λ t. record { arc = same.0 t; forward = same.1 t }
+key_same u v e = search rules
 
 -- The other way round an arc has the other place.
 back_is : (u v : SideArc) → AreReverse u v → key_of v ≡ back_key u
-back_is u v rev = (λ t. 2 * rev.arc t + cond (rev.turned t) 1 0) ∙ by_way u.forward
-  where
-    by_way : (b : Bool) → 2 * u.arc + cond (not b) 1 0 ≡ 2 * u.arc + cond b 0 1
-    by_way b = grind arith
+back_is u v rev = search rules
 
 reverse_is : (u v : SideArc) → key_of v ≡ back_key u → AreReverse u v
-reverse_is u v e =
-    let turned : SideArc = record { arc = u.arc; forward = not u.forward } in
-    let rev : AreReverse u turned = record { arc = refl; turned = refl } in
-    subst (AreReverse u) (sym (key_same v turned (e ∙ sym (back_is u turned rev)))) rev
+reverse_is u v e = search rules
 
 module _ (l : Gluing) (x : Lengths) (laid : IsSurface l) (table : List (Option Spot))
     (are : HasSpots l x (IsSlot l) table) where
@@ -170,9 +153,7 @@ module _ (l : Gluing) (x : Lengths) (laid : IsSurface l) (table : List (Option S
 pub list_more : {X : Type 0} (f : ℕ → X) (n : ℕ) (before old new : List X) (item : X)
     → old ≡ before ++ map f (range_with_len 0 n)
     → new ≡ old ++ item ∷ [] → item ≡ f n → new ≡ before ++ map f (range_with_len 0 (n + 1))
-list_more f n before old new item is grown same =
-    grown ∙ (λ i. is i ++ same i ∷ []) ∙ append_assoc before (map f (range_with_len 0 n)) (f n ∷ [])
-    ∙ ap (λ (xs : List _). before ++ xs) (sym (map-range_with_len_more f 0 n n (omega arith)))
+list_more f n before old new item is grown same = search (rules, append_assoc, map-range_with_len_more)
 
 -- What four lists have, one behind the other.
 read_joined : {X : Type 0} (a b c d : List X) (missing : X) (k m n : ℕ) → length a ≡ k → length b ≡ m → length c ≡ n
@@ -190,23 +171,16 @@ read_joined a b c d missing k m n long_a long_b long_c = (
 module _ (layout : Layout) (x : Lengths) (table : List (Option Spot)) where
   -- A side has as many links as arcs, each at its place.
   side_long : (p : ℕ) (s : Way) → length (side_links layout x table p s) ≡ length (side_at layout p s)
-  side_long p s = length-map-range_with_len (link_on table x (side_name s) (side_at layout p s)) 0
-      (length (side_at layout p s))
+  side_long p s = search (rules, length-map-range_with_len)
 
   side_reads : (p : ℕ) (s : Way) (at : ℕ) (missing : Link) → at < length (side_at layout p s)
       → get_or (side_links layout x table p s) at missing ≡ link_on table x (side_name s) (side_at layout p s) at
-  side_reads p s at missing low = get_or-map-range_with_len (link_on table x (side_name s) (side_at layout p s)) 0
-      (length (side_at layout p s)) at at missing low (omega arith)
+  side_reads p s at missing low = search (rules, get_or-map-range_with_len)
 
   -- So has a block.
   block_long : (p : ℕ) → length (block_links layout x table p)
       ≡ arcs_before (gluing_of layout) p west + length (side_at layout p west)
-  block_long p =
-      let links = side_links layout x table p in
-      let all = length-append ((links south ++ links east) ++ links north) (links west) in
-      let three = length-append (links south ++ links east) (links north) in
-      let two = length-append (links south) (links east) in
-      omega (arith, side_long p south, side_long p east, side_long p north, side_long p west)
+  block_long p = search (rules, length-append, side_long)
 
   block_reads : (p : ℕ) (s : Way) (at : ℕ) (missing : Link) → at < length (side_at layout p s)
       → get_or (block_links layout x table p) (arcs_before (gluing_of layout) p s + at) missing
@@ -235,8 +209,7 @@ module _ (layout : Layout) (x : Lengths) (table : List (Option Spot)) where
     where
       block_at : (p : ℕ) → p < length layout.patches
           → get_or (all_links layout x table) p [] ≡ block_links layout x table p
-      block_at p low = get_or-map-range_with_len (block_links layout x table) 0 (length layout.patches) p p [] low
-          (omega arith)
+      block_at p low = search (rules, get_or-map-range_with_len)
 
       each : (w : Slot) → IsSlot (gluing_of layout) w → (link : Link)
           × (slice_get (get_or (all_links layout x table) w.patch []) (place_in (gluing_of layout) w) ≡ Some link)

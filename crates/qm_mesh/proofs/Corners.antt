@@ -1,14 +1,12 @@
 -- A face without a repeated vertex has four different corners.
-use Rattle.std.proofs.Common.{◌≡◌, ◌≢◌, ℕ, zero, suc, ◌<◌, Bool, false, cond, eqb, List, [], ◌∷◌, length, get_or}
-use Rattle.std.proofs.Common.{Option, Some, None, sym, arith, refl, ◌∙◌, Result, Ok, Err, IfErr, subst}
+use Rattle.std.proofs.Common.{rules, ◌≡◌, ◌≢◌, ℕ, zero, suc, ◌<◌, Bool, false, cond, eqb, List, [], ◌∷◌, length, get_or}
+use Rattle.std.proofs.Common.{Option, Some, None, arith, refl, Result, Ok, Err, IfErr}
 use Rattle.std.proofs.lemmas.Bool.{or_parts, or_from, ne_eqb, eqb-false}
-use Rattle.std.proofs.lemmas.Option.{none-some}
-use Rattle.std.specs.List.{list_any}
+use Rattle.{std.specs.List.list_any, qm_mesh.specs.Refusals.IsRefusal, qm_mesh.specs.declared.fail.MeshFail.MeshFail}
 use Rattle.def_mesh.specs.Faults.{repeat_after, repeat_in, IsFirstFault}
 use Rattle.def_mesh.specs.declared.Place.TheVariants.{Repeated, EdgeTwice, TwoFans}
 use Rattle.def_mesh.specs.{Faces.Faces, Manifold.IsRepeatFree, Manifold.IsManifold, declared.Place.Place}
 use Rattle.qm_mesh.specs.declared.fail.MeshFail.TheVariants.{NotManifold, Memory}
-use Rattle.qm_mesh.specs.{Refusals.IsRefusal, declared.fail.MeshFail.MeshFail}
 
 -- Where nothing is told to be repeated, no vertex stands among those seen before, and no two places have the same.
 fresh : (seen vs : List ℕ) → repeat_after seen vs ≡ None
@@ -36,8 +34,7 @@ fresh seen (v ∷ vs) e =
 
 pub repeat_free_from : (faces : Faces) → ((f : ℕ) → f < length faces → length (get_or faces f []) ≡ 4)
     → ((f : ℕ) → f < length faces → repeat_in (get_or faces f []) ≡ None) → IsRepeatFree faces
-repeat_free_from faces four none f i j low l m =
-    (fresh [] (get_or faces f []) (none f low)).1 i j l (omega (arith, four f low))
+repeat_free_from faces four none f i j low l m = search (rules, fresh)
 
 -- And the other way round.
 none_from : (seen vs : List ℕ) → ((j : ℕ) → j < length vs → list_any (λ u. eqb u (get_or vs j 0)) seen ≡ false)
@@ -50,23 +47,17 @@ none_from seen (v ∷ vs) out differ = rw (out 0 (omega arith)) (none_from (v �
 -- A face of four that names a vertex twice.
 pub not_repeat_free : (faces : Faces) (f v : ℕ) → f < length faces → length (get_or faces f []) ≡ 4
     → repeat_in (get_or faces f []) ≡ Some v → ¬ IsRepeatFree faces
-not_repeat_free faces f v l four e free = none-some v (sym (none_from [] (get_or faces f []) (λ j m. refl)
-    (λ i j less m. free f i j l less (omega arith))) ∙ e)
+not_repeat_free faces f v l four e free = search (rules, none_from)
 
 pub refused_result : {M : Type 0} (faces : Faces) → ((f : ℕ) → f < length faces → length (get_or faces f []) ≡ 4)
     → (r : Result M MeshFail) → IfErr r (IsRefusal faces) → IfErr r (λ e. e ≢ Memory → ¬ IsManifold faces)
 refused_result faces four (Ok m) r = tt
-refused_result faces four (Err (NotManifold (Repeated f v))) r =
-    λ ne m. not_repeat_free faces f v r.is_face (four f r.is_face) r.repeated m.repeat_free
-refused_result faces four (Err (NotManifold (EdgeTwice from to face1 face2))) r = λ ne m.
-    let twice = r.1.2.first in
-    absurd (omega (arith, m.edges_once r.1.0 r.1.1 (omega arith) twice.is_dart twice.same))
+refused_result faces four (Err (NotManifold (Repeated f v))) r = search (rules, not_repeat_free)
+refused_result faces four (Err (NotManifold (EdgeTwice from to face1 face2))) r = search rules
 refused_result faces four (Err (NotManifold (TwoFans v))) r = λ ne m. r.2.two_fans (m.one_fan v)
 refused_result faces four (Err Memory) r = λ ne m. ne refl
 
 -- A refusal for a place is that place.
 pub refused_place : {M : Type 0} (faces : Faces) (p : Place) (r : Result M MeshFail) → IfErr r (IsRefusal faces)
     → r ≡ Err (NotManifold p) → IsFirstFault faces p
-refused_place faces p (Ok m) refusal e = cc
-refused_place faces p (Err f) refusal e = let same : f ≡ NotManifold p = cc in
-    subst (λ (x : MeshFail). IsRefusal faces x) same refusal
+refused_place faces h1 h2 = search rules

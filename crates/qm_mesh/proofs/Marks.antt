@@ -1,16 +1,13 @@
 -- The pass over the vertices that pairs darts: each step keeps what the loops know.
-use Rattle.std.proofs.Common.{◌≡◌, ◌≢◌, ℕ, ◌+◌, ◌<◌, ◌≤◌, List, length, get_or, set, Option, Some, None, sym, ap, ◌∙◌}
-use Rattle.std.proofs.Common.{inl, inr, arith, ◌⊎◌, suc, Bool, true, false, not, subst}
+use Rattle.std.proofs.Common.{rules, ◌≡◌, ◌≢◌, ℕ, ◌+◌, ◌<◌, ◌≤◌, List, length, get_or, set, Option, Some, None, sym, ap}
+use Rattle.std.proofs.Common.{◌∙◌, inl, inr, arith, ◌⊎◌, suc, Bool, true, false, not, subst}
 use Rattle.std.proofs.{lemmas.List.get_or-set_same, lemmas.List.get_or-set_other, lemmas.Bool.cases_eq}
-use Rattle.std.proofs.{lemmas.Bool.cases_Bool, lemmas.Bool.false≢true, lemmas.Grind.common_steps}
-use Rattle.std.proofs.{lemmas.Option.same_Some}
+use Rattle.std.proofs.{lemmas.Grind.common_steps, lemmas.Option.same_Some}
 use Rattle.def_mesh.specs.{Faces.Faces, Darts.darts, Darts.from_of, Darts.to_of, Darts.prev_of, Manifold.IsSameEdge}
-use Rattle.qm_mesh.specs.Pairs.{IsPartner, Runs, AreDarts, IsTwice, NoneTwice, IsFirstAt, IsFirstBelow, MarksOne}
-use Rattle.qm_mesh.specs.Pairs.{IsEarlier}
+use Rattle.qm_mesh.specs.Pairs.{IsPartner, Runs, IsTwice, NoneTwice, IsFirstAt, IsFirstBelow, MarksOne, IsEarlier}
 use Rattle.qm_mesh.specs.Turns.{beside_of, IsSeen, Reaches, IsClosed, IsBehind, IsWalk, IsVisit}
-use Rattle.qm_mesh.specs.declared.twins.Doubled.{Doubled}
+use Rattle.{qm_mesh.specs.declared.twins.Doubled.Doubled, std.specs.Option.option_or, list_laws.proofs.Filters.last_or}
 use Rattle.mesh_laws.proofs.Chains.{IsFan, earlier_place}
-use Rattle.{std.specs.Option.option_or, list_laws.proofs.Filters.last_or}
 
 -- At the end of d stands a dart that runs from v to it, and is at most d.
 pub record IsMark (faces : Faces) (v : ℕ) (by_end : List ℕ) (d : ℕ) : Type 0 where
@@ -28,11 +25,6 @@ pub record AreMarkedBefore (faces : Faces) (v : ℕ) (fan : List ℕ) (i : ℕ) 
     (twice : Option Doubled) : Type 0 where
   pub marks : (t : ℕ) → t < i → IsMark faces v by_end (get_or fan t 0)
   pub first : FirstBefore faces v fan i twice
-
--- Dart d stands at its end, or a lesser dart that runs as it does: the table where d had none.
-pub put_darts : (faces : Faces) (old : List ℕ) (at d : ℕ) → AreDarts faces old → d < darts faces
-    → AreDarts faces (set old at d)
-put_darts faces old at d all low u p = grind (arith, common_steps, all u p)
 
 module _ {faces : Faces} {v : ℕ} {fan : List ℕ} (h : IsFan faces v fan) {i : ℕ} (old new : List ℕ) (l : i < length fan)
     (marks : (t : ℕ) → t < i → IsMark faces v old (get_or fan t 0)) where
@@ -207,10 +199,7 @@ visit_both twins first old one two low unseen l r = record {
     -- It is the first, or marked by the one walk, or by the other.
     when : (d : ℕ) → get_or old d false ≡ false
         → (d ≡ first) ⊎ (IsSeen one d × (get_or (set old first true) d false ≡ false) ⊎ (get_or one d false ≡ false))
-    when d o = elim (cases_Bool (get_or (set old first true) d false)) [
-      | inl s ↦ elim (seen_before old first d s) [ inl q ↦ inl q | inr t ↦ absurd (false≢true (sym o ∙ t)) ]
-      | inr b ↦ elim (cases_Bool (get_or one d false)) [ inl a ↦ inr (inl (a, b)) | inr a ↦ inr (inr a) ]
-    ]
+    when d o = search rules
 
     closed : (side : Bool) (d : ℕ) → IsSeen two d → get_or old d false ≡ false
         → IsClosed side twins two d ⊎ IsBehind (not side) twins two d

@@ -1,6 +1,6 @@
 -- A vertex is inner where the two edges at each of its corners have two darts.
-use Rattle.std.proofs.Common.{◌≡◌, ℕ, ◌<◌, Bool, true, false, not, ◌||◌, cond, List, length, get_or, Some, None, eqb}
-use Rattle.std.proofs.Common.{is_some, sym, ◌∙◌, inl, inr, arith, refl, zero, suc, ◌+◌, ◌≤◌, ap}
+use Rattle.std.proofs.Common.{rules, ◌≡◌, ℕ, ◌<◌, Bool, true, false, not, ◌||◌, cond, List, length, get_or, Some, None}
+use Rattle.std.proofs.Common.{eqb, is_some, sym, ◌∙◌, inl, inr, arith, refl, zero, suc, ◌+◌, ◌≤◌, ap}
 use Rattle.std.proofs.lemmas.Bool.{cases_Bool, or_left, or_right, or_from, or_cases, eqb-true, eq-eqb, ne_eqb}
 use Rattle.std.proofs.lemmas.Bool.{not_from_true, not_from_false, false≢true, false_from_ne_true}
 use Rattle.std.proofs.{lemmas.List.FromFn.length-range_with_len, lemmas.List.FromFn.get_or-range_with_len}
@@ -19,8 +19,7 @@ use Rattle.{std.specs.Bool.MatchBool, list_laws.proofs.Filters.last_or}
 -- What the table has for a dart.
 pub partner_is : (faces : Faces) → IsRepeatFree faces → HasEdgesOnce faces → (d t : ℕ) → d < darts faces
     → IsPartner faces d t → twin_of faces d ≡ cond (eqb t d) None (Some t)
-partner_is faces free once d t l (inl is) =
-    rw (ne_eqb t d (twin_differs faces free d t l is)) (twin_found faces once d t is)
+partner_is faces free once d t l (inl is) = search (rules, twin_found)
 partner_is faces free once d t l (inr none) = rw (eq-eqb t d none.0) (twin_none faces d none.1)
 
 module _ {faces : Faces} {twins : List ℕ} (m : IsManifold faces) (p : ArePartners faces twins) where
@@ -65,11 +64,7 @@ module _ {faces : Faces} {twins : List ℕ} (m : IsManifold faces) (p : ArePartn
 -- A corner that is found behind an edge is there by the edge's twin.
 crossed : (faces : Faces) (left : Bool) (edge t e : ℕ) → IsPartner faces edge t → behind left edge t ≡ Some e
     → IsTwin faces edge t × (cond left t (next_of t) ≡ e)
-crossed faces left edge t e (inr none) b = absurd (cc (rw (eq-eqb t edge none.0) at b))
-crossed faces left edge t e (inl is) b = elim (cases_Bool (eqb t edge)) [
-  | inl q ↦ absurd (cc (rw q at b))
-  | inr q ↦ (is, cc (rw q at b))
-]
+crossed faces left h1 h2 = search (rules, eq-eqb)
 
 module _ {faces : Faces} {twins : List ℕ} (p : ArePartners faces twins) where
   -- What the table of partners says is beside a corner is beside it, and all that.

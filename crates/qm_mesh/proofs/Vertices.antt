@@ -1,16 +1,13 @@
 -- The number of vertices, and the length of a fan.
-use Rattle.std.proofs.Common.{◌≡◌, ℕ, zero, suc, ◌+◌, ◌*◌, ◌/◌, ◌%◌, ◌<◌, true, IsTrue, ltb, eqb, List, [], length}
-use Rattle.std.proofs.Common.{get_or, ap, ◌∙◌, sym, refl, arith, ◌∷◌, ◌++◌, set, inl, inr}
-use Rattle.std.proofs.lemmas.List.{get_or-map, get_or_default, append-nil, length-map, length-set, get_or-set_same}
-use Rattle.std.proofs.lemmas.List.{get_or-set_other}
-use Rattle.std.proofs.lemmas.Bool.{ltb-true, eqb-true, cases_eq, eq-eqb, ne_eqb}
+use Rattle.std.proofs.Common.{rules, ◌≡◌, ℕ, zero, suc, ◌+◌, ◌*◌, ◌%◌, ◌<◌, true, IsTrue, eqb, List, [], length, get_or}
+use Rattle.std.proofs.Common.{ap, ◌∙◌, refl, arith, ◌∷◌, ◌++◌, set}
+use Rattle.std.proofs.lemmas.{List.get_or-map, List.get_or_default, List.length-map, Bool.eqb-true}
 use Rattle.std.proofs.{lemmas.List.Sums.AllPass-from_list_all, lemmas.List.Folds.Any-from_list_any}
-use Rattle.std.specs.List.{list_all, list_any, filter, range_with_len}
+use Rattle.{std.specs.List.list_any, smallvec.specs.SmallVec.SmallVec, list_laws.proofs.Filters.filter_range_more}
 use Rattle.def_mesh.specs.{Faces.Faces, Faces.corner, Darts.darts, Darts.next_of, Darts.to_of, Darts.from_of}
 use Rattle.def_mesh.specs.{Vertices.vertex_count, Vertices.fan_of, Vertices.names_below, Vertices.UsesEach}
 use Rattle.qm_mesh.specs.Tables.{NamesBelow, HasCorners, fan_lists, fan_at, HoldDarts, AreFans}
 use Rattle.mesh_laws.proofs.{Chains.next_of_low, Chains.IsFan, Chains.is_fan, Flood.all_below, Flood.count_least}
-use Rattle.{smallvec.specs.SmallVec.SmallVec, list_laws.proofs.Filters.filter_range_more}
 
 -- Where a dart ends is a vertex.
 pub end_low : (faces : Faces) (n d : ℕ) → NamesBelow n faces → d < darts faces → to_of faces d < n
@@ -28,11 +25,7 @@ count_is faces (suc m) within used =
 -- The two conditions of a build, by darts.
 pub below_from : (faces : Faces) → ((f : ℕ) → f < length faces → length (get_or faces f []) ≡ 4) → (n : ℕ)
     → IsTrue (names_below n faces) → NamesBelow n faces
-below_from faces four n all d l =
-    let low : d / 4 < length faces = omega arith in
-    ltb-true _ n (AllPass-from_list_all (λ v. ltb v n) (get_or faces (d / 4) [])
-    (AllPass-from_list_all (λ face. list_all (λ v. ltb v n) face) faces all (d / 4) [] low) (d % 4) 0
-    (omega (arith, four (d / 4) low)))
+below_from faces four n all d l = search (rules, AllPass-from_list_all)
 
 pub corners_from : (faces : Faces) → ((f : ℕ) → f < length faces → length (get_or faces f []) ≡ 4) → (n : ℕ)
     → UsesEach n faces → HasCorners n faces
@@ -50,22 +43,13 @@ corners_from faces four n used v l =
 -- A fan that was read from the table.
 pub fan_read : (fans : List (SmallVec ℕ)) (v : ℕ) (fan : SmallVec ℕ) → v < length fans → fan ≡ get_or fans v fan
     → fan.items ≡ fan_at fans v
-fan_read fans v fan l e =
-    ap (λ (x : SmallVec ℕ). x.items) e ∙ sym (get_or-map (λ (x : SmallVec ℕ). x.items) fans v fan [] l)
+fan_read fans v fan l e = search (rules, get_or-map)
 
 -- The fan at v, with k put at the end where k leaves v.
 pub hold_more : (faces : Faces) (n k v : ℕ) (fans more : List (SmallVec ℕ)) → HoldDarts faces n k fans
     → v ≡ from_of faces k → v < n → fan_lists more ≡ set (fan_lists fans) v (fan_at fans v ++ k ∷ [])
     → HoldDarts faces n (k + 1) more
-hold_more faces n k v fans more h e low put = record { long = ap length put ∙ length-set _ v _ ∙ h.long; each = each }
-  where
-    each : (u : ℕ) → u < n → fan_at more u ≡ filter (λ d. eqb (from_of faces d) u) (range_with_len 0 (k + 1))
-    each u l = let more = filter_range_more (λ d. eqb (from_of faces d) u) k in elim (cases_eq u v) [
-      | inl s ↦ rw (put, more, eq-eqb (from_of faces k) u (sym e ∙ sym s), s)
-          (get_or-set_same (fan_lists fans) v _ [] (omega (arith, h.long)) ∙ ap (λ xs. xs ++ k ∷ []) (h.each v low))
-      | inr ne ↦ rw (put, more, ne_eqb (from_of faces k) u (λ q. ne (sym q ∙ sym e)))
-          (get_or-set_other (fan_lists fans) v u _ [] ne ∙ h.each u l ∙ sym (append-nil _))
-    ]
+hold_more faces n k v fans more h e low put = search (rules, filter_range_more)
 
 -- The fan that was read is that of its vertex.
 pub fan_found : (faces : Faces) (n v : ℕ) (fans : List (SmallVec ℕ)) (fan : SmallVec ℕ) → AreFans faces n fans

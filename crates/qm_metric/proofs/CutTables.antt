@@ -1,18 +1,17 @@
 -- What stands in a table in which the lengths of edges were put along paths.
-use Rattle.std.proofs.Common.{◌≡◌, ◌≢◌, ℕ, ◌<◌, ◌⊎◌, inl, inr, List, length, Some, None, Option, refl, sym, ap, ◌∙◌}
-use Rattle.std.proofs.Common.{subst, arith, ◌-◌, Bool, true, false, cond, [], map, replicate, get_or, true≢false, zero}
-use Rattle.std.proofs.Common.{suc, ◌∷◌}
-use Rattle.std.proofs.lemmas.List.{length-set, get_or-set_same, get_or-set_other, get_or_default, get_or-map}
-use Rattle.std.proofs.lemmas.List.{get_or-replicate, length-map, length-replicate}
+use Rattle.std.proofs.Common.{rules, ◌≡◌, ◌≢◌, ℕ, ◌<◌, ◌⊎◌, inl, inr, List, length, Some, None, Option, refl, sym, ap}
+use Rattle.std.proofs.Common.{◌∙◌, subst, arith, ◌-◌, Bool, true, false, cond, [], map, replicate, get_or, true≢false}
+use Rattle.std.proofs.Common.{zero, suc, ◌∷◌}
+use Rattle.std.proofs.lemmas.List.{length-set, get_or-set_other, get_or_default, get_or-map, get_or-replicate}
+use Rattle.std.proofs.lemmas.List.{length-map, length-replicate}
 use Rattle.std.proofs.lemmas.List.FromFn.{get_or-map-range_with_len, length-map-range_with_len}
 use Rattle.std.proofs.{lemmas.Bool.cases_eq, lemmas.Bool.cases_Bool, lemmas.Grind.same_number_lists}
 use Rattle.std.specs.{Prelude.slice_index, List.All, List.fold}
 use Rattle.def_mesh.specs.{Darts.darts, Darts.twin_of, Darts.all_darts, Faces.Faces, HalfEdges.half_edges}
 use Rattle.def_mesh.specs.{HalfEdges.IsQuadManifold}
 use Rattle.qm_metric.specs.Lengths.{with_dart, with_edge, with_twin, with_arcs, with_path}
-use Rattle.def_cut.specs.FullCut.{is_on, IsFullCut}
+use Rattle.{def_cut.specs.FullCut.is_on, def_cut.specs.FullCut.IsFullCut, def_layout.specs.declared.tmesh.TArc.TArc}
 use Rattle.def_layout.specs.Arcs.{dart_at, long_at, path, path_at, AreArcs, LiesAt, Path}
-use Rattle.def_layout.specs.declared.tmesh.TArc.{TArc}
 use Rattle.{def_metric.specs.Targets.edge_length, def_text.specs.Types.Positions}
 
 -- The edge of one dart is that of another.
@@ -33,8 +32,7 @@ module _ (faces : Faces) (places : Positions) (laws : IsQuadManifold (half_edges
 
   dart_put : (table : List ℕ) (d : ℕ) → d < darts faces → IsTable faces table
       → Stands faces places d (with_dart faces places table d)
-  dart_put table d low is =
-      (dart_table table d is, get_or-set_same table d (edge_length faces places d) 0 (omega (arith, low, is)))
+  dart_put table d low is = search rules
 
   dart_off : (table : List ℕ) (d c : ℕ) → d ≢ c → slice_index (with_dart faces places table d) c ≡ slice_index table c
   dart_off table d c ne = get_or-set_other table d c (edge_length faces places d) 0 (λ e. ne (sym e))

@@ -1,11 +1,11 @@
 -- What is read of the arcs of a layout: their darts, and the sum and the entries of a list of targets.
-use Rattle.std.proofs.Common.{◌≡◌, ℕ, zero, suc, ◌+◌, ◌*◌, ◌<◌, ◌≤◌, List, [], ◌∷◌, ◌++◌, take, length, map, get_or}
-use Rattle.std.proofs.Common.{refl, sym, ap, ◌∙◌, subst, arith, true, ◌-◌, ◌^◌}
+use Rattle.std.proofs.Common.{rules, ◌≡◌, ℕ, zero, suc, ◌+◌, ◌*◌, ◌<◌, ◌≤◌, List, [], ◌∷◌, ◌++◌, take, length, map}
+use Rattle.std.proofs.Common.{get_or, refl, sym, ap, ◌∙◌, subst, arith, true, ◌-◌, ◌^◌}
 use Rattle.std.proofs.lemmas.List.{get_or_default, get_or-map, length-map, map-append, take_more}
 use Rattle.std.proofs.lemmas.List.FromFn.{get_or-map-range_with_len, length-map-range_with_len}
 use Rattle.std.proofs.lemmas.Bool.Decides.{nat_tests}
 use Rattle.std.specs.{Prelude.min, Prelude.slice_index, List.All, List.range_with_len}
-use Rattle.def_remesh.specs.{Placings.IsMeshLayout, Keeping.IsNetFor, Refusals.IsTangledAt, Tasks.Wish}
+use Rattle.def_remesh.specs.{Placings.IsMeshLayout, Keeping.IsNetFor, Tasks.Wish}
 use Rattle.def_layout.specs.{Arcs.Path, Arcs.long_at, Arcs.path, Arcs.path_at, Layouts.layout_of, Layouts.Layout}
 use Rattle.def_layout.specs.{Layouts.gluing_of, declared.tmesh.TArc.TArc, declared.tmesh.TMesh.TMesh}
 use Rattle.def_layout.specs.{Surfaces.IsSurface, Gluings.Gluing, Gluings.use_of, Lengths.Lengths}
@@ -18,7 +18,7 @@ use Rattle.def_flow.specs.{declared.net.Arc.Arc, declared.net.Settings.Settings,
 use Rattle.def_layoutnet.specs.{LayoutNet.IsNetOf, LayoutNet.IsTangled, LayoutNet.AreSettings, LayoutNet.HasNoNet}
 use Rattle.def_layoutnet.specs.{MeshLayouts.IsSomeLayout, declared.NetFail.NetFail}
 use Rattle.qm_metric.specs.Wishes.{with_wish, HasWishes, wish_along}
-use Rattle.def_fit.specs.Aims.{aimed, denominator, fit_settings, numerator, AreAimedNear, IsAim, IsFit, IsFitFail}
+use Rattle.def_fit.specs.Aims.{aimed, fit_settings, AreAimedNear, IsFit, IsFitFail}
 use Rattle.def_fit.specs.{declared.fit.Aim.TheVariants.Scale, declared.fit.Aim.Aim, declared.fit.Fit.Fit}
 use Rattle.def_metric.specs.{Fails.metric_fail_of, Fails.size_fail_of, Fails.IsFar, Targets.wish_sum}
 use Rattle.def_metric.specs.{declared.fail.MetricFail.TheVariants.Far, declared.limits.TheConstants.MAX_TARGETS}
@@ -44,9 +44,7 @@ runs_inside faces t p of lies k run low j d less =
 pub sum_is : (f : List ℕ → ℕ) (runs : List TArc) → count (λ (run : TArc). f run.darts.items) runs
     ≡ count_below (λ a. f (path_at (map path runs) a).darts) (length (map path runs))
 sum_is f [] = refl
-sum_is f (run ∷ runs) =
-    let first = count_below_prefix (λ a. f (path_at (map path (run ∷ runs)) a).darts) (length (map path runs)) in
-    omega (arith, sum_is f runs)
+sum_is f (run ∷ runs) = search (rules, count_below_prefix, sum_is f runs)
 
 -- An entry of a list of numbers that are cut off at a bound.
 entry_is : (f : List ℕ → ℕ) (most : ℕ) (runs : List TArc) (a : ℕ) → a < length runs
@@ -129,15 +127,7 @@ rewished_net wish net = record net {
 }
 
 has_wishes : (wish : Lengths) (net : Network) → HasWishes net wish (rewished_net wish net)
-has_wishes wish net =
-    let f = λ (k : ℕ). with_wish (wish k) (arc_at net.arcs k) in
-    record {
-      nodes = refl;
-      p = refl;
-      q = refl;
-      long = length-map-range_with_len f 0 (length net.arcs);
-      arcs = λ k l. get_or-map-range_with_len f 0 (length net.arcs) k k _ l (omega arith);
-    }
+has_wishes wish net = search (rules, length-map-range_with_len, get_or-map-range_with_len)
 
 -- A layout is too tangled for other wishes where it is for some.
 pub tangled_for : (l : Gluing) (old wish : Lengths) (settings : Settings) (count : ℕ) → IsSurface l
@@ -175,12 +165,7 @@ few_arcs t is =
 
 -- The settings of a fit are within their limits.
 pub settings_fit : (fit : Fit) → IsFit fit → AreSettings (fit_settings fit)
-settings_fit fit is = omega (arith, by_aim fit.aim is.aim, is.floor)
-  where
-    by_aim : (aim : Aim) → IsAim aim → (1 ≤ numerator aim) × (numerator aim ≤ 1000) × (1 ≤ denominator aim)
-        × (denominator aim ≤ 1000)
-    by_aim (Scale p q) range = range
-    by_aim _ range = omega arith
+settings_fit fit is = search rules
 
 -- Wishes that are told arc by arc.
 abbrev along : (f : List ℕ → ℕ) → Wish
@@ -227,9 +212,7 @@ wished_net t f settings lies net is small new wishes low bounds are few has =
 near_aims : (aim : Aim) (soup : FaceSet) (wishes : List ℕ) (p : Layout) → IsSomeLayout p
     → (wish_sum (aimed aim soup wishes) p ≤ MAX_TARGETS → AreAimedNear aim (aimed aim soup wishes) p)
     × (MAX_TARGETS < wish_sum (aimed aim soup wishes) p → ¬ AreAimedNear aim (aimed aim soup wishes) p)
-near_aims (Scale a b) soup wishes p lies =
-    (λ few. tt, λ high near. omega (arith, high, lengths_few p lies, lies.mesh.few))
-near_aims _ soup wishes p lies = (λ few. few, λ high near. omega (arith, high, near))
+near_aims aim soup h1 = search (rules, lengths_few)
 
 -- What a network near the old lengths, the sum of the wishes and the entries that were found say of a fit.
 pub record AreFound (aim : Aim) (soup : FaceSet) (wishes : List ℕ) (p : Layout) (settings : Settings) (net : Network)
@@ -255,9 +238,7 @@ module _ (aim : Aim) (soup : FaceSet) (wishes : List ℕ) (t : TMesh) (settings 
   pub no_net : (rising : Rising) (fail : NetFail)
       → HasNoNet (gluing_of (layout_of t)) (long_at (layout_of t).arcs) (long_at (layout_of t).arcs) settings fail
       → IsFitFail aim (aimed aim soup wishes) (layout_of t) settings rising (size_fail_of (metric_fail_of fail))
-  no_net rising (nets.Tangled number) is =
-      moved (λ w. IsTangledAt w (layout_of t) settings number) (tangled_for (gluing_of (layout_of t))
-      (long_at (layout_of t).arcs) (along f (layout_of t)) settings number (laid_of (layout_of t) lies) is)
+  no_net rising (nets.Tangled number) is = search (rules, tangled_for, laid_of)
   no_net rising nets.Memory is = tt
 
   pub are_found : (net : Network) → IsNearNet (layout_of t) settings net → tangle_number net ≤ MAX_TANGLE → (sum : ℕ)

@@ -1,7 +1,7 @@
 -- Whole square roots: there is one, and it is computed digit by digit.
-use Rattle.std.proofs.Common.{ℕ, zero, suc, ◌+◌, ◌*◌, ◌/◌, ◌^◌, ◌<◌, ◌≤◌, subst, inl, inr, arith, ◌≡◌, List, [], length}
+use Rattle.std.proofs.Common.{rules, ℕ, zero, suc, ◌+◌, ◌*◌, ◌/◌, ◌^◌, ◌<◌, ◌≤◌, inl, inr, arith, ◌≡◌, List, length}
 use Rattle.std.proofs.Common.{pos, ◌-ℤ◌, ◌*ℤ◌, sym, ap, ◌∙◌, mul-one}
-use Rattle.std.proofs.{lemmas.Nat.mul-le, Math.Nat.pow-succ', Math.Nat.mul-le-mul_left, Math.Nat.mul-le-mul_right}
+use Rattle.std.proofs.{lemmas.Nat.mul-le, Math.Nat.mul-le-mul_left, Math.Nat.mul-le-mul_right}
 use Rattle.std.proofs.{lemmas.Bool.Decides.leb_tells, lemmas.Int.ints, lemmas.List.get_or-map, lemmas.List.length-map}
 use Rattle.def_metric.specs.{Roots.doubled_root, Roots.root_of, Roots.root_within, Roots.IsRoot, Roots.WholeRootLaw}
 use Rattle.def_metric.specs.{Fails.AreNear, Starts.times_long, Starts.StartLaw, Targets.wish_sum}
@@ -37,9 +37,7 @@ more n r is = elim (leb_tells ((2 * r + 1) * (2 * r + 1)) n) [
 
 within : (digits n : ℕ) → n < 4 ^ digits → IsRoot n (root_within digits n)
 within zero n low = record { low = omega arith; high = omega arith }
-within (suc digits) n low =
-    let less : n < 4 * 4 ^ digits = subst (λ m. n < m) (pow-succ' 4 digits) low in
-    more n (root_within digits (n / 4)) (within digits (n / 4) (omega arith))
+within (suc digits) n low = search (rules, more, within digits (n / 4) (omega arith))
 
 pub root_law : WholeRootLaw
 root_law n low = let found = within 64 n low in
@@ -47,10 +45,7 @@ root_law n low = let found = within 64 n low in
 
 -- The root of a number below 2 ^ 124.
 pub root_small : (n r : ℕ) → IsRoot n r → n < 2 ^ 124 → r < 2 ^ 62
-root_small n r is low = elim (leb_tells (2 ^ 62) r) [
-  | inl le ↦ absurd (omega (arith, mul-le (2 ^ 62) (2 ^ 62) r r le.1 le.1, is.low, low))
-  | inr less ↦ less.1
-]
+root_small n r is low = search rules
 
 -- The old lengths, as many times as no floor is above, start the descent whatever lengths are wished for.
 
@@ -76,8 +71,7 @@ module _ (wish : Wish) (layout : Layout) (settings : Settings) (floors : Lengths
   laid = laid_of layout is.mesh
 
   entry : (a : ℕ) → a < length layout.arcs → entries xs a ≡ pos (times * x a)
-  entry a low = ap pos (get_or-map (λ (run : Path). times * length run.darts) layout.arcs a
-      (record { first = 0; last = 0; darts = [] }) 0 low)
+  entry a low = search (rules, get_or-map)
 
   -- Opposite sides are equal.
   along : (p : ℕ) (s : Way) → p < l.patches → sum_along l (entries xs) p s ≡ pos (times * size l x p s)

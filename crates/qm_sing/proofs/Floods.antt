@@ -1,17 +1,17 @@
 -- Counting along a range.
-use Rattle.std.proofs.Common.{◌≡◌, ℕ, zero, suc, ◌+◌, ◌<◌, ◌≤◌, Bool, true, false, cond, [], ◌∷◌, ◌++◌, length, map, ap}
-use Rattle.std.proofs.Common.{◌∙◌, refl, arith, ◌≢◌, ◌⊎◌, ◌*◌, ◌/◌, eqb, List, get_or, set, Option, Some, None, sym}
-use Rattle.std.proofs.Common.{inl, inr, ◌||◌}
-use Rattle.std.proofs.lemmas.List.{length-append, append-nil, get_or-set_same, get_or-set_other, length-set}
+use Rattle.std.proofs.Common.{rules, ◌≡◌, ℕ, zero, suc, ◌+◌, ◌<◌, ◌≤◌, Bool, true, false, cond, [], ◌∷◌, ◌++◌, length}
+use Rattle.std.proofs.Common.{map, ap, ◌∙◌, refl, arith, ◌≢◌, ◌⊎◌, ◌*◌, ◌/◌, eqb, List, get_or, set, Option, Some, None}
+use Rattle.std.proofs.Common.{sym, inl, inr, ◌||◌}
+use Rattle.std.proofs.lemmas.List.{length-append, get_or-set_same, get_or-set_other, length-set}
 use Rattle.std.proofs.lemmas.List.Sums.{length-filter, count_by-le-length, sum_by-set}
-use Rattle.std.proofs.lemmas.Bool.{cases_Bool, cases_eq, cases_lt, eq-eqb, ne_eqb, eqb-true, eqb-false, or_left}
-use Rattle.std.proofs.lemmas.Bool.{false≢true, or_right, or_cases}
+use Rattle.std.proofs.lemmas.Bool.{cases_Bool, cases_eq, cases_lt, eq-eqb, eqb-true, eqb-false, or_left, false≢true}
+use Rattle.std.proofs.lemmas.Bool.{or_right, or_cases}
 use Rattle.std.proofs.{lemmas.List.FromFn.length-range_with_len, lemmas.List.FromFn.map-range_with_len_more}
 use Rattle.std.proofs.{lemmas.Option.none-some, lemmas.Option.same_Some, lemmas.List.Folds.list_any-append}
 use Rattle.std.specs.List.{filter, range_with_len, list_any, count_by}
 use Rattle.def_mesh.specs.Components.{used_count, share_edge, is_marked, component_of}
-use Rattle.def_mesh.specs.{Faces.Faces, Meshes.IsMesh, Vertices.is_used, Vertices.vertex_count, Darts.is_reverse}
-use Rattle.def_mesh.specs.{Darts.twin_of, Manifold.IsManifold}
+use Rattle.def_mesh.specs.{Faces.Faces, Meshes.IsMesh, Vertices.vertex_count, Darts.is_reverse, Darts.twin_of}
+use Rattle.def_mesh.specs.{Manifold.IsManifold}
 use Rattle.list_laws.proofs.Filters.{filter_range_more, any_in_range, range_any}
 use Rattle.mesh_laws.proofs.{Flood.Shares, Flood.sound, Flood.closed, Flood.own_mark, Flood.share_back}
 use Rattle.mesh_laws.proofs.{Chains.reverse_twin, Chains.twin_reverse, Chains.twin_found, Chains.twin_is}
@@ -20,36 +20,22 @@ use Rattle.qm_sing.specs.declared.flooding.TheConstants.{NONE}
 
 -- At most all.
 pub filter_few : (p : ℕ → Bool) (n : ℕ) → length (filter p (range_with_len 0 n)) ≤ n
-filter_few p n = omega (
-  arith,
-  length-filter p (range_with_len 0 n),
-  count_by-le-length p (range_with_len 0 n),
-  length-range_with_len 0 n,
-)
+filter_few p n = search (rules, length-filter, count_by-le-length, length-range_with_len)
 
 -- One number more.
 pub one_more : (p : ℕ → Bool) (n : ℕ) → length (filter p (range_with_len 0 (n + 1)))
     ≡ length (filter p (range_with_len 0 n)) + cond (p n) 1 0
-one_more p n = ap length (filter_range_more p n)
-    ∙ (length-append (filter p (range_with_len 0 n)) (cond (p n) (n ∷ []) [])
-    ∙ ap (λ k. length (filter p (range_with_len 0 n)) + k) (at (p n)))
-  where
-    at : (b : Bool) → length (cond b (n ∷ []) []) ≡ cond b 1 0
-    at true = refl
-    at false = refl
+one_more p n = search (rules, filter_range_more, length-append)
 
 -- All of a range.
 pub filter_all : (p : ℕ → Bool) (a n : ℕ) → ((x : ℕ) → a ≤ x → x < a + n → p x ≡ true) → filter p (range_with_len a n)
     ≡ range_with_len a n
 filter_all p a zero all = refl
-filter_all p a (suc n) all =
-    rw (all a (omega arith) (omega arith))
-    (ap (λ xs. a ∷ xs) (filter_all p (a + 1) n (λ x l h. all x (omega arith) (omega arith))))
+filter_all p a (suc n) all = search (rules, filter_all p (a + 1) n (λ x l h. all x (omega arith) (omega arith)))
 
 -- All vertices of a mesh are used.
 pub used_is : (faces : Faces) → IsMesh faces → used_count faces ≡ vertex_count faces
-used_is faces m = ap length (filter_all (is_used faces) 0 (vertex_count faces) (λ x l h. m.used x (omega arith)))
-    ∙ length-range_with_len 0 (vertex_count faces)
+used_is faces m = search (rules, filter_all, length-range_with_len)
 
 -- One value more along a range, and one number more of a filter.
 pub map_more : {X : Type 0} (f : ℕ → X) (n : ℕ) → map f (range_with_len 0 (n + 1)) ≡ map f (range_with_len 0 n)
@@ -62,8 +48,7 @@ filter_on p n is = filter_range_more p n ∙ ap (λ (b : Bool). filter p (range_
 
 pub filter_off : (p : ℕ → Bool) (n : ℕ) → p n ≡ false → filter p (range_with_len 0 (n + 1))
     ≡ filter p (range_with_len 0 n)
-filter_off p n is = filter_range_more p n ∙ (ap (λ (b : Bool). filter p (range_with_len 0 n) ++ cond b (n ∷ []) []) is
-    ∙ append-nil (filter p (range_with_len 0 n)))
+filter_off p n is = search (rules, filter_range_more)
 
 -- A flood, face by face.
 
@@ -90,12 +75,7 @@ is_none x not_so = elim (cases_eq x NONE) [ inl q ↦ q | inr k ↦ absurd (not_
 -- One face more has its number.
 fewer : (numbers : List ℕ) (g component : ℕ) → g < length numbers → get_or numbers g 0 ≡ NONE → component ≢ NONE
     → count_by (λ n. eqb n NONE) (set numbers g component) + 1 ≡ count_by (λ n. eqb n NONE) numbers
-fewer numbers g component l is ne = omega (
-  arith,
-  sum_by-set (λ n. cond (eqb n NONE) 1 0) numbers g component 0 l,
-  ap {B = ℕ} (λ (b : Bool). cond b 1 0) (eq-eqb (get_or numbers g 0) NONE is),
-  ap {B = ℕ} (λ (b : Bool). cond b 1 0) (ne_eqb component NONE ne),
-)
+fewer numbers g component l is ne = search (rules, sum_by-set)
 
 -- Faces share an edge where a dart of one has its twin in the other.
 pub shared_by : (faces : Faces) (f d e : ℕ) → 4 * f ≤ d → d < 4 * f + 4 → twin_of faces d ≡ Some e
@@ -117,19 +97,7 @@ module _ {faces : Faces} {f component i : ℕ} {old now w0 w : List ℕ} (ne : c
     (lf : f < length faces) (s : IsSpread faces f component i old now w0 w) where
   unchanged : ((x : ℕ) → twin_of faces (4 * f + i) ≡ Some x → IsNumbered now (x / 4))
       → IsSpread faces f component (i + 1) old now w0 w
-  unchanged last = record {
-    long = s.long;
-    kept = s.kept;
-    fresh = s.fresh;
-    waits = s.waits;
-    come = s.come;
-    low = s.low;
-    less = s.less;
-    near = λ d x l h t. elim (cases_lt d (4 * f + i)) [
-      | inl a ↦ s.near d x l a t
-      | inr b ↦ let q : 4 * f + i ≡ d = omega arith in last x (ap (twin_of faces) q ∙ t)
-    ];
-  }
+  unchanged last = search rules
 
   -- The face behind it had no number.
   module _ (e : ℕ) (is : twin_of faces (4 * f + i) ≡ Some e) (bare : get_or now (e / 4) 0 ≡ NONE) where

@@ -1,6 +1,6 @@
 -- A walk onward from the end of a walk back is a longest run, and with it the runs of one dart more are found.
-use Rattle.std.proofs.Common.{◌≡◌, ◌≢◌, ℕ, zero, suc, ◌+◌, ◌-◌, ◌<◌, ◌≤◌, Bool, true, false, Some, List, [], ◌∷◌, ◌++◌}
-use Rattle.std.proofs.Common.{length, replicate, get_or, sym, ap, ◌∙◌, refl, inl, inr, arith, ◌/◌, map}
+use Rattle.std.proofs.Common.{rules, ◌≡◌, ◌≢◌, ℕ, zero, suc, ◌+◌, ◌-◌, ◌<◌, ◌≤◌, Bool, true, false, Some, List, [], ◌∷◌}
+use Rattle.std.proofs.Common.{◌++◌, length, replicate, get_or, sym, ap, ◌∙◌, refl, inl, inr, arith, ◌/◌, map}
 use Rattle.std.proofs.lemmas.List.{length-append, length-replicate, map-append, get_or_append_left, get_or-append-add}
 use Rattle.std.proofs.lemmas.List.{get_or-replicate, length-map}
 use Rattle.std.proofs.{lemmas.Option.none-some, lemmas.Option.same_Some, lemmas.Bool.cases_Bool, lemmas.Bool.cases_eq}
@@ -9,12 +9,11 @@ use Rattle.def_mesh.specs.Components.{component_numbers, least_face, least_faces
 use Rattle.def_mesh.specs.{Faces.Faces, Faces.all_faces, Darts.darts, Manifold.IsManifold, Kinds.kind_of}
 use Rattle.def_mesh.specs.{Vertices.all_vertices, Vertices.vertex_count, declared.Kind.Kind}
 use Rattle.def_runs.specs.Runs.{HasDart, IsBefore, IsLongestRun, first_dart, follower, is_closed, last_dart, nth_run}
-use Rattle.cut_laws.proofs.Pigeon.{sent_or_not}
+use Rattle.{cut_laws.proofs.Pigeon.sent_or_not, qm_sing.proofs.Seeds.number_low, qm_sing.proofs.Seeds.number_read}
 use Rattle.qm_sing.specs.Walks.{AreRunsBelow, AreRunsSoFar, IsBack, IsLine, leader, walked}
 use Rattle.qm_sing.specs.{declared.flooding.TheConstants.NONE, declared.lines.Line.Line}
 use Rattle.qm_sing.proofs.Walking.{back_of, follows, leads, on_from, places_differ, walk_low, walk_list, walk_long}
 use Rattle.qm_sing.proofs.Walking.{walk_at, holds_at}
-use Rattle.qm_sing.proofs.Seeds.{number_low, number_read}
 
 -- A walk onward from the end of a walk back is a longest run.
 module _ {faces : Faces} (m : IsManifold faces) {d first r : ℕ} {line : Line} {run_old run at_old at : List ℕ}
@@ -116,8 +115,7 @@ module _ {faces : Faces} (m : IsManifold faces) {d first r : ℕ} {line : Line} 
   -- The walk onward goes the way back.
   along : first ≡ behind back.steps → (j i : ℕ) → j + i ≡ back.steps → j ≤ on.last → ahead j ≡ behind i
   along e zero i s l = e ∙ ap behind (omega arith)
-  along e (suc j) i s l = same_Some _ _ (sym (on.goes j (omega arith))
-      ∙ (ap (follower faces) (along e j (suc i) (omega arith) (omega arith)) ∙ undone i (omega arith)))
+  along e (suc j) i s l = search (rules, undone, along e j (suc i) (omega arith) (omega arith))
 
   too_short : first ≡ behind back.steps → (i : ℕ) → on.last + suc i ≡ back.steps → ⊥
   too_short e i s =
@@ -146,10 +144,7 @@ module _ {faces : Faces} (m : IsManifold faces) {d : ℕ} {run at : List ℕ} {l
 
   fresh_where : (y : ℕ) → y < darts faces → ((r k : ℕ) → r < length lists → k < length (nth_run lists r)
       → get_or (nth_run lists r) k 0 ≡ y → ⊥) → get_or run y 0 ≡ NONE
-  fresh_where y l none = elim (cases_eq (get_or run y 0) NONE) [
-    | inl e ↦ e
-    | inr ne ↦ let t = found.there y l ne in absurd (none (get_or run y 0) (get_or at y 0) t.0 t.1 t.2)
-  ]
+  fresh_where y l none = search rules
 
   -- Where x is not numbered, neither is the dart before it, nor the one after it.
   pub before_fresh : (x y : ℕ) → x < darts faces → leader faces x ≡ Some y → get_or run x 0 ≡ NONE
@@ -242,10 +237,7 @@ module _ {faces : Faces} (m : IsManifold faces) {d first : ℕ} {line : Line} {r
 
   told_old : (r : ℕ) → r < length so.lists → (k : ℕ) → k < length (nth_run so.lists r)
       → (get_or run (get_or (nth_run so.lists r) k 0) 0 ≡ r) × (get_or at (get_or (nth_run so.lists r) k 0) 0 ≡ k)
-  told_old r l k h =
-      let o = so.found.told r k l h in
-      let n = kept_at (get_or (nth_run so.lists r) k 0) (λ e. absurd (omega (arith, o.0, few))) in
-      (n.0 ∙ o.0, n.1 ∙ o.1)
+  told_old r l k h = search (rules, kept_at)
 
   told_new : (k : ℕ) → k < length new
       → (get_or run (get_or new k 0) 0 ≡ length so.lists) × (get_or at (get_or new k 0) 0 ≡ k)
@@ -315,15 +307,12 @@ pub passed_by : {faces : Faces} {d : ℕ} {run at len : List ℕ} {closed : List
 passed_by {d} {run} old so = record {
   lists = so.lists;
   few = omega (arith, so.few);
-  found = record {
-    runs = so.found.runs;
-    least = so.found.least;
-    increasing = so.found.increasing;
-    below = λ r l. let (k, h, b) = so.found.below r l in (k, h, omega arith);
-    told = so.found.told;
-    there = so.found.there;
-    all = λ e l. elim (cases_eq e d) [ inl s ↦ rw s old | inr ne ↦ so.found.all e (omega arith) ];
-  };
+  found =
+      let below : (r : ℕ) → r < length so.lists → (k : ℕ) × (k < length (nth_run so.lists r))
+      × (get_or (nth_run so.lists r) k 0 < d + 1) = λ r l. let (k, h, b) = so.found.below r l in (k, h, omega arith) in
+      let all : (e : ℕ) → e < d + 1 → get_or run e 0 ≢ NONE = λ e l. elim (cases_eq e d)
+      [ inl s ↦ rw s old | inr ne ↦ so.found.all e (omega arith) ] in
+      assumption (below, all);
   run_long = so.run_long;
   at_long = so.at_long;
   lengths = so.lengths;
@@ -333,23 +322,7 @@ passed_by {d} {run} old so = record {
 -- No run is found at first.
 pub none_found : (faces : Faces) (run at : List ℕ) → run ≡ replicate (darts faces) NONE → at ≡ replicate (darts faces) 0
     → AreRunsSoFar faces 0 run at [] []
-none_found faces run at is_run is_at = record {
-  lists = [];
-  few = omega arith;
-  found = record {
-    runs = λ r l. absurd (omega arith);
-    least = λ r k l c h. absurd (omega arith);
-    increasing = λ q r less l. absurd (omega arith);
-    below = λ r l. absurd (omega arith);
-    told = λ r k l h. absurd (omega arith);
-    there = λ e l ne. absurd (ne (rw is_run (get_or-replicate (darts faces) e NONE 0 l)));
-    all = λ e l. absurd (omega arith);
-  };
-  run_long = rw is_run (length-replicate (darts faces) NONE);
-  at_long = rw is_at (length-replicate (darts faces) 0);
-  lengths = refl;
-  closes = refl;
-}
+none_found faces run at is_run is_at = search (rules, get_or-replicate, length-replicate)
 
 -- Tables that have an entry for each face or vertex.
 

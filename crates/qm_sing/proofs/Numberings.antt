@@ -1,11 +1,10 @@
 -- What kinds say of vertices, and the kind that a table has.
-use Rattle.std.proofs.Common.{◌≡◌, ℕ, ◌<◌, Bool, true, false, cond, not, eqb, ltb, ◌&&◌, List, get_or, map, ap, ◌∙◌}
-use Rattle.std.proofs.Common.{refl, inl, inr, arith, ◌≢◌, zero, suc, ◌+◌, ◌≤◌, length, replicate, sym}
-use Rattle.std.proofs.lemmas.Bool.{cases_eq, eq-eqb, ne_eqb, lt-ltb, le-ltb, cases_Bool, cases_lt}
+use Rattle.std.proofs.Common.{rules, ◌≡◌, ℕ, ◌<◌, Bool, cond, eqb, ltb, List, get_or, map, ap, ◌∙◌, refl, inl, inr}
+use Rattle.std.proofs.Common.{arith, ◌≢◌, zero, suc, ◌+◌, ◌≤◌, length, replicate, sym, []}
+use Rattle.std.proofs.lemmas.Bool.{cases_eq, eq-eqb}
 use Rattle.std.proofs.lemmas.List.{length-replicate, get_or-replicate, length-map, ext_get_or}
 use Rattle.std.proofs.lemmas.List.FromFn.{get_or-map-range_with_len, length-range_with_len}
-use Rattle.def_mesh.specs.Kinds.{is_inner, is_corner, is_singular, is_reflex, is_regular, kind_of}
-use Rattle.def_mesh.specs.declared.Kind.TheVariants.{Regular, Singular, Corner, Reflex}
+use Rattle.def_mesh.specs.Kinds.{is_singular, is_reflex, is_regular, kind_of}
 use Rattle.def_mesh.specs.Components.{is_marked, least_face, least_faces, place_among, component_numbers}
 use Rattle.def_mesh.specs.{Faces.Faces, Faces.all_faces, Vertices.vertex_count, Vertices.all_vertices}
 use Rattle.def_mesh.specs.{Vertices.faces_at, declared.Kind.Kind}
@@ -13,46 +12,18 @@ use Rattle.qm_sing.specs.{Rings.is_regular_kind, Rings.is_singular_kind, Rings.i
 use Rattle.qm_sing.specs.{Floods.IsClosed, Floods.IsFlooded, Floods.IsNumbering, declared.flooding.TheConstants.NONE}
 use Rattle.mesh_laws.proofs.Flood.{closed, own_mark, same_component, least_most, least_low, least_marked, least_same}
 use Rattle.mesh_laws.proofs.Flood.{least_again}
-use Rattle.{std.specs.List.filter, std.specs.List.range_with_len, sum_laws.proofs.Tests.once_at_most}
+use Rattle.{std.specs.List.filter, std.specs.List.range_with_len, list_laws.proofs.Filters.last_or}
+use Rattle.qm_sing.proofs.Floods.{filter_few, one_more}
 
 -- The tests of a kind are those of its vertex.
 pub regular_is : (faces : Faces) (v : ℕ) → is_regular_kind (kind_of faces v) ≡ is_regular faces v
-regular_is faces v = at (is_regular faces v) (is_inner faces v) (is_corner faces v)
-  where
-    at : (a b e : Bool) → is_regular_kind (cond a Regular (cond b Singular (cond e Corner Reflex))) ≡ a
-    at true b e = refl
-    at false true e = refl
-    at false false true = refl
-    at false false false = refl
+regular_is faces v = search rules
 
 pub singular_is : (faces : Faces) (v : ℕ) → is_singular_kind (kind_of faces v) ≡ is_singular faces v
-singular_is faces v = at (is_regular faces v) (is_inner faces v) (is_corner faces v)
-  where
-    at : (a b e : Bool) → is_singular_kind (cond a Regular (cond b Singular (cond e Corner Reflex))) ≡ (b && not a)
-    at true true e = refl
-    at true false e = refl
-    at false true e = refl
-    at false false true = refl
-    at false false false = refl
+singular_is faces v = search rules
 
 pub reflex_is : (faces : Faces) (v : ℕ) → 0 < faces_at faces v → is_reflex_kind (kind_of faces v) ≡ is_reflex faces v
-reflex_is faces v used = at (is_inner faces v) (faces_at faces v) used
-  where
-    by_test : (b : Bool) → is_reflex_kind (cond b Regular Singular) ≡ false
-    by_test true = refl
-    by_test false = refl
-
-    at : (inner : Bool) (n : ℕ) → 0 < n
-        → is_reflex_kind (cond (eqb n (cond inner 4 2)) Regular
-        (cond inner Singular (cond (not inner && eqb n 1) Corner Reflex))) ≡ (not inner && ltb 2 n)
-    at true n l = by_test (eqb n 4)
-    at false n l = elim (cases_eq n 2) [
-      | inl e ↦ rw (eq-eqb n 2 e, le-ltb 2 n (omega arith)) refl
-      | inr two ↦ elim (cases_eq n 1) [
-        | inl e ↦ rw (ne_eqb n 2 two, eq-eqb n 1 e, le-ltb 2 n (omega arith)) refl
-        | inr one ↦ rw (ne_eqb n 2 two, ne_eqb n 1 one, lt-ltb 2 n (omega arith)) refl
-      ]
-    ]
+reflex_is faces v used = search rules
 
 -- The kind that was read.
 pub kind_read : (faces : Faces) (kinds : List Kind) (v : ℕ) (k : Kind) → v < vertex_count faces
@@ -62,75 +33,54 @@ kind_read faces kinds v k l e = ap (λ (xs : List Kind). get_or xs v k) e ∙ ge
 
 -- Components are numbered by their least faces.
 
--- How many of the n numbers from a on that pass are less than f.
-abbrev before : (p : ℕ → Bool) (f a n : ℕ) → ℕ
-before p f a n = length (filter (λ g. ltb g f) (filter p (range_with_len a n)))
+-- Of the numbers from a on that pass, those less than f.
+none_before : (p : ℕ → Bool) (f a n : ℕ) → f ≤ a → filter (λ g. ltb g f) (filter p (range_with_len a n)) ≡ []
+none_before p f a zero l = refl
+none_before p f a (suc n) l = search (rules, none_before p f (a + 1) n (omega arith))
 
-before_none : (p : ℕ → Bool) (f a n : ℕ) → f ≤ a → before p f a n ≡ 0
-before_none p f a zero l = refl
-before_none p f a (suc n) l = elim (cases_Bool (p a)) [
-  | inl on ↦ rw (on, le-ltb a f l) (before_none p f (a + 1) n (omega arith))
-  | inr off ↦ rw off (before_none p f (a + 1) n (omega arith))
-]
-
-before_all : (p : ℕ → Bool) (f a n : ℕ) → a + n ≤ f → before p f a n ≡ length (filter p (range_with_len a n))
-before_all p f a zero l = refl
-before_all p f a (suc n) l = elim (cases_Bool (p a)) [
-  | inl on ↦ rw (on, lt-ltb a f (omega arith)) (ap suc (before_all p f (a + 1) n (omega arith)))
-  | inr off ↦ rw off (before_all p f (a + 1) n (omega arith))
-]
-
--- With f moved on by one.
-before_next : (p : ℕ → Bool) (f a n : ℕ) → a ≤ f → f < a + n → before p (f + 1) a n ≡ before p f a n + cond (p f) 1 0
-before_next p f a zero l h = absurd (omega arith)
-before_next p f a (suc n) l h =
-    let none = λ (g : ℕ) (le : g ≤ a + 1). before_none p g (a + 1) n le in
-    elim (cases_eq a f) [
-      | inl e ↦ rw (← e) (elim (cases_Bool (p a)) [
-        | inl on ↦ rw (
-          on,
-          lt-ltb a (a + 1) (omega arith),
-          le-ltb a a (omega arith),
-          none (a + 1) (omega arith),
-          none a (omega arith),
-        ) refl
-        | inr off ↦ rw (off, none (a + 1) (omega arith), none a (omega arith)) refl
-      ])
-      | inr ne ↦
-          let rest = before_next p f (a + 1) n (omega arith) (omega arith) in
-          elim (cases_Bool (p a)) [
-            | inl on ↦ rw (on, lt-ltb a (f + 1) (omega arith), lt-ltb a f (omega arith)) (omega (arith, rest))
-            | inr off ↦ rw off rest
-          ]
-    ]
+before_is : (p : ℕ → Bool) (a n k : ℕ) → k ≤ n → filter (λ g. ltb g (a + k)) (filter p (range_with_len a n))
+    ≡ filter p (range_with_len a k)
+before_is p a n zero l = none_before p (a + 0) a n (omega arith)
+before_is p a zero (suc k) l = absurd (omega arith)
+before_is p a (suc n) (suc k) l = search (rules, before_is p (a + 1) n k (omega arith))
 
 module _ (faces : Faces) where
   abbrev is_least : (f : ℕ) → Bool
   is_least f = eqb (least_face faces f) f
 
-  pub place_none : place_among (least_faces faces) 0 ≡ 0
-  place_none = before_none is_least 0 0 (length faces) (omega arith)
+  place_is : (f : ℕ) → f ≤ length faces → place_among (least_faces faces) f
+      ≡ length (filter is_least (range_with_len 0 f))
+  place_is f l = let e : 0 + f ≡ f = omega arith in rw e at (ap length (before_is is_least 0 (length faces) f l))
 
   pub place_next : (f : ℕ) → f < length faces → place_among (least_faces faces) (f + 1)
       ≡ place_among (least_faces faces) f + cond (eqb (least_face faces f) f) 1 0
-  place_next f l = before_next is_least f 0 (length faces) (omega arith) (omega arith)
+  place_next f l = cc (place_is (f + 1) (omega arith), place_is f (omega arith), one_more is_least f)
 
   pub place_low : (f : ℕ) → f ≤ length faces → place_among (least_faces faces) f ≤ f
-  place_low zero l = omega (arith, place_none)
-  place_low (suc f) l = let e : suc f ≡ f + 1 = omega arith in
-      rw e (omega (arith, place_next f (omega arith), place_low f (omega arith), once_at_most (is_least f)))
+  place_low f l = omega (arith, place_is f l, filter_few is_least f)
 
   pub place_all : place_among (least_faces faces) (length faces) ≡ length (least_faces faces)
-  place_all = before_all is_least (length faces) 0 (length faces) (omega arith)
+  place_all = place_is (length faces) (omega arith)
+
+  -- A least face has a smaller place than all behind it.
+  pub place_less : (f g : ℕ) → f < g → g ≤ length faces → least_face faces f ≡ f
+      → place_among (least_faces faces) f < place_among (least_faces faces) g
+  place_less f zero less l own = absurd (omega arith)
+  place_less f (suc g) less l own =
+      let e : suc g ≡ g + 1 = omega arith in
+      let next = place_next g (omega arith) in
+      rw e (elim (last_or g f (omega arith)) [
+        | inl k ↦ omega (arith, next, place_less f g k (omega arith) own)
+        | inr s ↦ omega (
+          arith,
+          rw (eq-eqb (least_face faces g) g (rw s at own)) at next,
+          ap (place_among (least_faces faces)) s,
+        )
+      ])
 
   -- No component yet.
   pub numbering_none : (numbers : List ℕ) → numbers ≡ replicate (length faces) NONE → IsNumbering faces 0 0 numbers
-  numbering_none numbers e = rw e (record {
-    long = length-replicate (length faces) NONE;
-    below = λ g l k. absurd (k (get_or-replicate (length faces) g NONE 0 l));
-    all = λ g l h. absurd (omega arith);
-    many = sym place_none;
-  })
+  numbering_none numbers e = search (rules, length-replicate, get_or-replicate, place_is)
 
 module _ {faces : Faces} {f components : ℕ} {numbers : List ℕ} (n : IsNumbering faces f components numbers) where
   -- Numbered faces are closed.
@@ -144,17 +94,7 @@ module _ {faces : Faces} {f components : ℕ} {numbers : List ℕ} (n : IsNumber
 
   -- A face that has its number already.
   pub numbering_skip : f < length faces → IsNumbered numbers f → IsNumbering faces (f + 1) components numbers
-  numbering_skip l k = record {
-    long = n.long;
-    below = λ g lg h. (omega (arith, (n.below g lg h).0), (n.below g lg h).1);
-    all = λ g lg h. n.all g lg (elim (cases_eq (least_face faces g) f) [
-      | inl e ↦ let again : least_face faces f ≡ f = rw e at (least_again faces g lg) in
-          absurd (omega (arith, again, (n.below f l k).0))
-      | inr ne ↦ omega arith
-    ]);
-    many = n.many ∙ sym (place_next faces f l ∙ rw
-        (ne_eqb (least_face faces f) f (λ e. absurd (omega (arith, e, (n.below f l k).0)))) (omega arith));
-  }
+  numbering_skip l k = search (rules, least_again, place_next)
 
   -- A face that begins a component.
   pub numbering_more : f < length faces → get_or numbers f 0 ≡ NONE → components ≢ NONE → {new : List ℕ}
@@ -180,10 +120,7 @@ module _ {faces : Faces} {f components : ℕ} {numbers : List ℕ} (n : IsNumber
   }
     where
       own : least_face faces f ≡ f
-      own = elim (cases_lt (least_face faces f) f) [
-        | inl less ↦ absurd (n.all f l less bare)
-        | inr h ↦ omega (arith, least_most faces f f l (own_mark faces f l))
-      ]
+      own = search (rules, least_most, own_mark)
 
 -- All faces.
 module _ {faces : Faces} {components : ℕ} {numbers : List ℕ}

@@ -1,9 +1,9 @@
 -- Walks along runs: the step back undoes the step onward, and a walk ends or comes back to its start.
-use Rattle.std.proofs.Common.{◌≡◌, ◌≢◌, ℕ, zero, suc, ◌<◌, ◌≤◌, Bool, true, false, cond, Option, Some, None, option_map}
-use Rattle.std.proofs.Common.{List, map, length, get_or, set, sym, ap, ◌∙◌, refl, inl, inr, arith}
-use Rattle.std.proofs.{lemmas.Option.none-some, lemmas.Option.same_Some, lemmas.Bool.cases_eq}
-use Rattle.std.proofs.{lemmas.List.get_or-set_same, lemmas.List.get_or-set_other, lemmas.List.length-map}
-use Rattle.std.proofs.{lemmas.List.FromFn.length-range_with_len, lemmas.List.FromFn.get_or-map-range_with_len}
+use Rattle.std.proofs.Common.{rules, ◌≡◌, ◌≢◌, ℕ, zero, suc, ◌<◌, ◌≤◌, Bool, true, cond, Option, Some, None, option_map}
+use Rattle.std.proofs.Common.{List, map, ◌+◌, length, get_or, set, sym, ap, ◌∙◌, inl, inr, arith}
+use Rattle.std.proofs.{lemmas.Option.same_Some, lemmas.Bool.cases_eq, lemmas.List.get_or-set_same}
+use Rattle.std.proofs.{lemmas.List.length-map, lemmas.List.FromFn.length-range_with_len}
+use Rattle.std.proofs.{lemmas.List.FromFn.get_or-map-range_with_len}
 use Rattle.def_mesh.specs.Darts.{darts, from_of, next_of, prev_of, to_of, twin_of, straight_of}
 use Rattle.def_mesh.specs.{Faces.Faces, Manifold.IsManifold, HalfEdges.IsQuadManifold, HalfEdges.half_edges}
 use Rattle.def_runs.specs.Runs.{HasDart, follower, is_passed}
@@ -18,9 +18,7 @@ pub record IsStep (step : ℕ → Option ℕ) (n : ℕ) : Type 0 where
 -- What a chosen and mapped option holds.
 chosen : (p : Bool) (g : ℕ → ℕ) (o : Option ℕ) (e : ℕ) → cond p (option_map g o) None ≡ Some e → (p ≡ true) × (t : ℕ)
     × (o ≡ Some t) × (g t ≡ e)
-chosen false g o e is = absurd (none-some e is)
-chosen true g None e is = absurd (none-some e is)
-chosen true g (Some t) e is = (refl, t, refl, same_Some (g t) e is)
+chosen p g h1 = search rules
 
 module _ {faces : Faces} (m : IsManifold faces) where
   laws : IsQuadManifold (half_edges faces)
@@ -79,27 +77,19 @@ module _ {step : ℕ → Option ℕ} {n : ℕ} (one : IsStep step n) (d : ℕ) (
 
   pub walk_low : (many : ℕ) → Goes step d many → (k : ℕ) → k ≤ many → walked step d k < n
   walk_low many g zero l = d_low
-  walk_low many g (suc k) l = one.low (walked step d k) (walked step d (suc k)) (walk_low many g k (omega arith))
-      (g k (omega arith))
+  walk_low many g (suc k) l = search (rules, walk_low many g k (omega arith))
 
-  pub goes_more : (many e : ℕ) → Goes step d many → step (walked step d many) ≡ Some e → Goes step d (suc many)
-  goes_more many e g is k l = elim (cases_eq k many) [
-    | inl s ↦ rw s (is ∙ ap Some (sym (walked_on many e is)))
-    | inr ne ↦ g k (omega arith)
-  ]
+  pub goes_more : (many e : ℕ) → Goes step d many → step (walked step d many) ≡ Some e → Goes step d (many + 1)
+  goes_more many e g is k l = search rules
 
   pub away_more : (many e : ℕ) → StaysAway step d many → step (walked step d many) ≡ Some e → e ≢ d
-      → StaysAway step d (suc many)
-  away_more many e a is ne k l = elim (cases_eq k many) [
-    | inl s ↦ rw s (λ same. ne (sym (walked_on many e is) ∙ same))
-    | inr other ↦ a k (omega arith)
-  ]
+      → StaysAway step d (many + 1)
+  away_more many e a is ne k l = search rules
 
   -- Two places that lead to one are one.
   led_once : (many : ℕ) → Goes step d many → (i j : ℕ) → i < many → j < many
       → walked step d (suc i) ≡ walked step d (suc j) → walked step d i ≡ walked step d j
-  led_once many g i j l h e = one.once (walked step d i) (walked step d j) (walked step d (suc i))
-      (walk_low many g i (omega arith)) (walk_low many g j (omega arith)) (g i l) (g j h ∙ ap Some (sym e))
+  led_once many g i j l h e = search (rules, walk_low)
 
   -- Two places of a walk that meets its start no more differ.
   pub places_differ : (many : ℕ) → Goes step d many → StaysAway step d many → (i j : ℕ) → i < j → j ≤ many
@@ -130,10 +120,7 @@ told_more walk many r run_old run at_old at low_run low_at differ old = record {
   where
     both : {a b : ℕ} → (e : ℕ) → e ≢ walk many → (get_or run e 0 ≡ a) × (get_or at e 0 ≡ b)
         → (get_or (set run (walk many) r) e 0 ≡ a) × (get_or (set at (walk many) many) e 0 ≡ b)
-    both e ne o = (
-      get_or-set_other run (walk many) e r 0 ne ∙ o.0,
-      get_or-set_other at (walk many) e many 0 ne ∙ o.1,
-    )
+    both e ne o = search rules
 
 -- The dart where a walk along a run stands is told.
 pub told_here : {faces : Faces} → IsManifold faces → {first r place dart : ℕ} {run_old run at_old at : List ℕ}

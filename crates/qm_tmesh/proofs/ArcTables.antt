@@ -1,8 +1,8 @@
 -- What is read of the arcs in a slice.
-use Rattle.std.proofs.Common.{◌≡◌, ℕ, ◌<◌, Bool, List, [], map, length, get_or, sym, ◌∙◌, ap, arith, ◌⊎◌, suc, ◌+◌}
-use Rattle.std.proofs.Common.{true, ◌∷◌, ◌++◌, inl, inr, length-append}
-use Rattle.std.proofs.lemmas.List.{get_or-map, length-map, get_or_append_left, get_or-append-add}
-use Rattle.std.proofs.{lemmas.Grind.get_or_default_zero, lemmas.Bool.cases_eq, lemmas.Bool.cases_lt}
+use Rattle.std.proofs.Common.{rules, ◌≡◌, ℕ, ◌<◌, Bool, List, [], map, length, get_or, sym, ◌∙◌, ap, arith, ◌⊎◌, suc}
+use Rattle.std.proofs.Common.{◌+◌, true, ◌∷◌, ◌++◌, inl, inr, length-append}
+use Rattle.std.proofs.lemmas.List.{get_or-map, length-map, get_or_append_left}
+use Rattle.std.proofs.{lemmas.Grind.get_or_default_zero, lemmas.Bool.cases_eq}
 use Rattle.def_mesh.specs.{Faces.Faces, Darts.darts, HalfEdges.half_edges, HalfEdges.HalfEdges, Vertices.vertex_count}
 use Rattle.def_cut.specs.{FullCut.is_on, Grids.rectangle, Grids.patch_at, Grids.least_of, declared.patch.Patch.Patch}
 use Rattle.def_layout.specs.{Arcs.Path, Arcs.path, Arcs.path_at, Arcs.long_at, Nodes.is_node, declared.tmesh.TArc.TArc}
@@ -10,6 +10,7 @@ use Rattle.layout_laws.proofs.{Runs.run_low, Runs.same_length, Uses.run_entry, U
 use Rattle.qm_tmesh.specs.{Tables.IsMarked, Tables.IsNamedRun, Tables.AreStarts, Tables.ArePlaces, Uses.AreNamed}
 use Rattle.qm_tmesh.specs.{Arcs.IsArcFrom, Arcs.AreArcsBelow}
 use Rattle.layout_laws.specs.Named.{run_list, run_name}
+use Rattle.qm_tmesh.proofs.Walks.{push_each, push_last}
 
 -- The arc that was read.
 pub read_arc : (arcs : List TArc) (a : ℕ) (x : TArc) → a < length arcs → x ≡ get_or arcs a x → path_at (map path arcs) a
@@ -51,20 +52,17 @@ arc_read {faces} {cut} marked arcs named {a} {arc} l is =
 -- A number at place k of a list, where it was read at an equal place.
 pub read_at : (items : List ℕ) (k : ℕ) {place d : ℕ} → d ≡ get_or items place d → place ≡ k → k < length items
     → d ≡ get_or items k 0
-read_at items k {place} {d} e same low =
-    e ∙ (get_or_default_zero items place d (omega (arith, same, low)) ∙ ap (λ x. get_or items x 0) same)
+read_at items k {place} {d} e same low = search (rules, get_or_default_zero)
 
 -- The patch that was read.
 pub read_patch : (patches : List Patch) (p : ℕ) (x : Patch) → p < length patches → x ≡ get_or patches p x
     → patch_at (map rectangle patches) p ≡ rectangle x
-read_patch patches p x l is = get_or-map rectangle patches p x (record { w = 0; h = 0; cells = [] }) l
-    ∙ ap rectangle (sym is)
+read_patch patches p x l is = search (rules, get_or-map)
 
 -- The list of arcs, arc by arc.
 
 arc_end : (arcs : List Path) (p : Path) → path_at (arcs ++ p ∷ []) (length arcs) ≡ p
-arc_end arcs p = let e : length arcs ≡ length arcs + 0 = omega arith in ap (path_at (arcs ++ p ∷ [])) e
-    ∙ get_or-append-add arcs (p ∷ []) 0 (record { first = 0; last = 0; darts = [] })
+arc_end arcs p = push_last arcs p (record { first = 0; last = 0; darts = [] })
 
 arc_front : (arcs : List Path) (p : Path) (a : ℕ) → a < length arcs → path_at (arcs ++ p ∷ []) a ≡ path_at arcs a
 arc_front arcs p a l = get_or_append_left arcs (p ∷ []) (record { first = 0; last = 0; darts = [] }) a l
@@ -74,29 +72,18 @@ one_more arcs p = length-append arcs (p ∷ [])
 
 front_or_end : (arcs : List Path) (p : Path) (a : ℕ) → a < length (arcs ++ p ∷ []) → (a < length arcs)
     ⊎ (a ≡ length arcs)
-front_or_end arcs p a l = elim (cases_lt a (length arcs)) [
-  | inl b ↦ inl b
-  | inr g ↦ inr (omega (arith, one_more arcs p))
-]
+front_or_end arcs p a l = search (rules, one_more)
 
 each_more : (P : Path → Type 0) (arcs : List Path) (p : Path) → ((a : ℕ) → a < length arcs → P (path_at arcs a)) → P p
     → (a : ℕ) → a < length (arcs ++ p ∷ []) → P (path_at (arcs ++ p ∷ []) a)
-each_more P arcs p each here a l = elim (front_or_end arcs p a l) [
-  | inl b ↦ rw (arc_front arcs p a b) (each a b)
-  | inr e ↦ rw (e, arc_end arcs p) here
-]
+each_more P arcs p each here = push_each (λ k. P) arcs p (record { first = 0; last = 0; darts = [] }) each here
 
 module _ {faces : Faces} {cut marks : List Bool} (marked : IsMarked faces cut marks) where
   abbrev mesh : HalfEdges
   mesh = half_edges faces
 
   pub arcs_none : (nodes : List ℕ) → AreArcsBelow faces cut nodes 0 []
-  arcs_none nodes = record {
-    each = λ a l. absurd (omega arith);
-    ordered = λ a l. absurd (omega arith);
-    below = λ a l. absurd (omega arith);
-    all = λ s n named l. absurd (omega arith);
-  }
+  arcs_none nodes = search rules
 
   -- The ends of a run are nodes, and have their places.
   pub node_place : (list places : List ℕ) → ArePlaces marks list places → {v : ℕ} → v < vertex_count faces
@@ -165,8 +152,7 @@ module _ {faces : Faces} {cut marks : List Bool} (marked : IsMarked faces cut ma
     }
       where
         same : n ≡ length p.darts
-        same = same_length mesh marked.laws (is_on cut) marked.full (is_node faces cut) marked.stand s n
-            (length p.darts) named.run from.run
+        same = search (rules, same_length)
 
         list : p.darts ≡ run_list mesh s n
         list = from.darts ∙ ap (run_list mesh s) (sym same)

@@ -1,23 +1,23 @@
 -- What was found is the layout.
-use Rattle.std.proofs.Common.{◌≡◌, ℕ, zero, suc, ◌+◌, ◌-◌, ◌<◌, ◌≤◌, Bool, true, false, cond, List, [], ◌∷◌, ◌++◌, map}
-use Rattle.std.proofs.Common.{length, get_or, Some, sym, ◌∙◌, ap, subst, refl, inl, inr, arith, ◌*◌}
+use Rattle.std.proofs.Common.{rules, ◌≡◌, ℕ, zero, suc, ◌+◌, ◌-◌, ◌<◌, ◌≤◌, Bool, true, false, cond, List, [], ◌∷◌}
+use Rattle.std.proofs.Common.{◌++◌, map, length, get_or, sym, ◌∙◌, ap, subst, refl, arith, ◌*◌}
 use Rattle.std.proofs.lemmas.List.FromFn.{get_or-map-range_with_len, length-map-range_with_len}
 use Rattle.std.proofs.{lemmas.List.length-map, Math.Nat.suc-mul, lemmas.Grind.get_or_default_zero}
 use Rattle.std.specs.List.{filter, range_with_len}
-use Rattle.def_mesh.specs.{Faces.Faces, Meshes.IsMesh, Darts.darts, Darts.from_of, Darts.to_of, Darts.twin_of}
-use Rattle.def_mesh.specs.{Vertices.vertex_count, HalfEdges.HalfEdges, HalfEdges.half_edges}
+use Rattle.def_mesh.specs.{Faces.Faces, Meshes.IsMesh, Darts.darts, Darts.from_of, Darts.to_of, Vertices.vertex_count}
+use Rattle.def_mesh.specs.{HalfEdges.HalfEdges, HalfEdges.half_edges}
 use Rattle.def_cut.specs.{FullCut.is_on, FullCut.IsFullCut, Grids.Rectangle, Grids.patch_at, Grids.IsPartition}
 use Rattle.def_cut.specs.{Grids.cell_of, Steps.easts}
 use Rattle.def_layout.specs.{Arcs.Path, Arcs.path, Arcs.path_at, Arcs.dart_at, Arcs.long_at, Arcs.IsArc, Arcs.LiesAt}
 use Rattle.def_layout.specs.{Borders.side_size, Borders.border_dart, Gluings.Way, Nodes.is_node, Layouts.way_number}
 use Rattle.def_layout.specs.{Layouts.IsDartLayout, declared.tmesh.SideArc.SideArc, declared.tmesh.TArc.TArc}
 use Rattle.layout_laws.proofs.{Borders.IsLine, Borders.line_easts, Borders.each_in_run, FaceNodes.are_nodes}
-use Rattle.layout_laws.proofs.{Runs.run_low, Uses.run_long, Uses.run_entry, Uses.named_arc, Uses.named_or_back}
+use Rattle.layout_laws.proofs.{Uses.run_long, Uses.run_entry, Uses.named_arc}
 use Rattle.qm_tmesh.specs.{Arcs.IsArcFrom, Arcs.AreArcsBelow, Four.AreRuns, Four.IsPatchOf, Four.HavePatches}
 use Rattle.qm_tmesh.specs.{Four.AreAllFour, Sides.reach_in, Sides.IsSplit, Sides.IsSideOf, Tables.IsMarked, Uses.use_in}
 use Rattle.qm_tmesh.specs.{Uses.HasUsesBelow}
 use Rattle.qm_tmesh.proofs.{Splits.arc_use, Splits.begins, Splits.side_split, Splits.entry, Splits.is_line}
-use Rattle.qm_tmesh.proofs.{UseTables.to_named, UseTables.uses_done, UseTables.arc_of}
+use Rattle.qm_tmesh.proofs.{UseTables.to_named, UseTables.uses_done, UseTables.lies_in}
 use Rattle.{list_laws.proofs.Filters.filter_range_more, mesh_laws.proofs.Chains.manifold_law}
 use Rattle.{face_laws.proofs.FullCuts.full_cut_law, layout_laws.specs.Named.run_list}
 
@@ -111,31 +111,8 @@ module _ {faces : Faces} {cut marks : List Bool} (marked : IsMarked faces cut ma
   covers d l on =
       let (s, n, k, run, lk, e) = each_in_run mesh marked.laws (is_on cut) marked.full (is_node faces cut) marked.stand
       face ps parts d l on in
-      elim (named_or_back mesh marked.laws (is_on cut) marked.full (is_node faces cut) marked.stand s n run) [
-        | inl named ↦ let (a, la, is) = arc_of marked far below s n named in (
-          a,
-          k,
-          true,
-          la,
-          omega (arith, lk, ap length is, run_long mesh s n),
-          sym (ap (λ (xs : List ℕ). get_or xs k 0) is ∙ (run_entry mesh s n k lk ∙ e)),
-        )
-        | inr (r, back, named) ↦
-            let (a, la, is) = arc_of marked far below r n named in
-            let long : long_at arcs a ≡ n = ap length is ∙ run_long mesh r n in
-            let place : long_at arcs a - 1 - k ≡ n - suc k = omega arith in
-            let there = ap (λ x. get_or (path_at arcs a).darts x 0) place
-            ∙ (ap (λ (xs : List ℕ). get_or xs (n - suc k) 0) is ∙ run_entry mesh r n (n - suc k) (omega arith)) in (
-              a,
-              k,
-              false,
-              la,
-              omega (arith, long, lk),
-              ap (twin_of faces) there ∙ (marked.laws.twin_twin (easts mesh s k) (easts mesh r (n - suc k))
-                  (run_low mesh marked.laws (is_on cut) marked.full (is_node faces cut) marked.stand s n run k lk)
-                  (back.twin k (n - suc k) (omega arith)) ∙ ap Some e),
-            )
-      ]
+      let (a, f, la, long, lies) = lies_in marked far below s n k run lk in
+      (a, k, f, la, omega (arith, long, lk), subst (λ (x : ℕ). LiesAt mesh (path_at arcs a).darts f k x) e lies)
 
   module _ {sides : List (List (List SideArc))} (all : AreAllFour faces arcs uses ps sides)
       (nodes : list ≡ filter (is_on marks) (range_with_len 0 (length marks))) where
@@ -233,8 +210,7 @@ module _ {faces : Faces} {cut : List Bool} {p : Rectangle} (is : IsPatchOf faces
   -- What was read at a place that is equal to another.
   at : {cell : ℕ} (place other : ℕ) → cell ≡ get_or p.cells place cell → place ≡ other → other < length p.cells
       → cell ≡ get_or p.cells other 0
-  at {cell} place other e same low =
-      e ∙ (get_or_default_zero p.cells place cell (omega (arith, same, low)) ∙ ap (λ x. get_or p.cells x 0) same)
+  at {cell} place other e same low = search (rules, get_or_default_zero)
 
   pub south_west : {cell : ℕ} → cell ≡ get_or p.cells 0 cell → cell ≡ cell_of p 0 0
   south_west e = at 0 (0 * p.w + 0) e (omega arith) (omega (arith, some_cell))
@@ -244,14 +220,8 @@ module _ {faces : Faces} {cut : List Bool} {p : Rectangle} (is : IsPatchOf faces
 
   pub north_east : {cell place : ℕ} → cell ≡ get_or p.cells place cell → place ≡ length p.cells - 1
       → cell ≡ cell_of p (p.w - 1 - 0) (p.h - 1)
-  north_east {cell} {place} e there =
-      let low = top (p.h - 1) above in
-      at place ((p.h - 1) * p.w + (p.w - 1 - 0)) e (omega (arith, there, low, wide)) (omega (arith, low, wide))
+  north_east {cell} {place} e there = search (rules, at)
 
   pub north_west : {cell place : ℕ} → cell ≡ get_or p.cells place cell → place ≡ length p.cells - p.w
       → cell ≡ cell_of p 0 (p.h - 1 - 0)
-  north_west {cell} {place} e there =
-      let low = top (p.h - 1) above in
-      let row : p.h - 1 ≡ p.h - 1 - 0 = omega arith in
-      at place ((p.h - 1) * p.w + 0) e (omega (arith, there, low)) (omega (arith, low, wide))
-      ∙ ap (λ x. get_or p.cells (x * p.w + 0) 0) row
+  north_west {cell} {place} e there = search (rules, at)

@@ -1,7 +1,8 @@
 -- A side as it grows, use by use.
+use Rattle.std.proofs.Common.{rules}
 use Rattle.std.proofs.Common.{◌≡◌, ℕ, suc, ◌+◌, ◌<◌, ◌≤◌, Bool, true, List, [], ◌∷◌, ◌++◌, length, get_or, ◌∙◌, ap, inl}
-use Rattle.std.proofs.Common.{inr, length-append, arith, zero, ◌-◌, false, set, Option, Some, None, sym, refl}
-use Rattle.std.proofs.lemmas.List.{get_or_append_left, get_or-append-add, get_or-set_same, get_or-set_other, length-set}
+use Rattle.std.proofs.Common.{inr, length-append, arith, zero, ◌-◌, false, set, Option, Some, None, sym, refl, subst}
+use Rattle.std.proofs.lemmas.List.{get_or_append_left, get_or-set_same, get_or-set_other, length-set}
 use Rattle.std.proofs.{lemmas.Bool.cases_lt, lemmas.Bool.false≢true, lemmas.Option.none-some, lemmas.Option.same_Some}
 use Rattle.def_layout.specs.{Arcs.Path, Arcs.long_at, Arcs.IsRun, Arcs.path_at, Arcs.name_at, Arcs.LiesAt}
 use Rattle.def_layout.specs.{declared.tmesh.SideArc.SideArc, Nodes.is_node}
@@ -14,48 +15,29 @@ use Rattle.cut_laws.proofs.{Folds.twin_same, Pigeon.increasing_place}
 use Rattle.layout_laws.specs.Named.{run_list, run_name}
 use Rattle.layout_laws.proofs.{Borders.each_in_run, Runs.run_low, Runs.run_inner, Runs.same_place, Runs.same_length}
 use Rattle.layout_laws.proofs.{Runs.back_run, Uses.run_long, Uses.run_entry, Uses.named_or_back}
-use Rattle.qm_tmesh.proofs.{ArcTables.named_low, Walks.name_dart, Walks.name_low}
+use Rattle.qm_tmesh.proofs.{ArcTables.named_low, Walks.name_dart, Walks.name_low, Walks.push_last}
 use Rattle.{sum_laws.proofs.Sums.count_below_same, list_laws.proofs.Filters.last_or}
 
 use_front : (used : List SideArc) (u : SideArc) (k : ℕ) → k < length used → use_in (used ++ u ∷ []) k ≡ use_in used k
 use_front used u k l = get_or_append_left used (u ∷ []) (record { arc = 0; forward = true }) k l
 
 use_end : (used : List SideArc) (u : SideArc) → use_in (used ++ u ∷ []) (length used) ≡ u
-use_end used u = let e : length used ≡ length used + 0 = omega arith in ap (use_in (used ++ u ∷ [])) e
-    ∙ get_or-append-add used (u ∷ []) 0 (record { arc = 0; forward = true })
+use_end used u = push_last used u (record { arc = 0; forward = true })
 
 reach_front : (arcs : List Path) (used : List SideArc) (u : SideArc) (k : ℕ) → k ≤ length used
     → reach_in arcs (used ++ u ∷ []) k ≡ reach_in arcs used k
-reach_front arcs used u k h = count_below_same (λ i. long_at arcs (use_in (used ++ u ∷ []) i).arc)
-    (λ i. long_at arcs (use_in used i).arc) k (λ i l. ap (λ (x : SideArc). long_at arcs x.arc)
-    (use_front used u i (omega arith)))
+reach_front arcs used u k h = search (rules, count_below_same, use_front)
 
 reach_end : (arcs : List Path) (used : List SideArc) (u : SideArc)
     → reach_in arcs (used ++ u ∷ []) (length (used ++ u ∷ [])) ≡ reach_in arcs used (length used) + long_at arcs u.arc
-reach_end arcs used u =
-    let n : length (used ++ u ∷ []) ≡ suc (length used) = length-append used (u ∷ []) ∙ omega arith in
-    let last : long_at arcs (use_in (used ++ u ∷ []) (length used)).arc ≡ long_at arcs u.arc =
-    ap (λ (x : SideArc). long_at arcs x.arc) (use_end used u) in
-    ap (reach_in arcs (used ++ u ∷ [])) n ∙ omega (arith, last, reach_front arcs used u (length used) (omega arith))
+reach_end arcs used u = search (rules, length-append, use_end, reach_front)
 
 pub side_more : {arcs : List Path} {uses : List SideArc} {line : List ℕ} {begins : ℕ → Bool} {t next : ℕ}
     {used : List SideArc} {u : SideArc} → IsSplit arcs uses line begins → IsSideSoFar arcs uses line begins t used
     → t < length line → u ≡ use_in uses (get_or line t 0) → next ≡ t + long_at arcs u.arc
     → IsSideSoFar arcs uses line begins next (used ++ u ∷ [])
 side_more {arcs} {uses} {line} {begins} {t} {next} {used} {u} split so l is on =
-    let at = split.step t l (so.next l) in
-    let long = ap (λ (x : SideArc). long_at arcs x.arc) is in
-    record {
-      at = reach_end arcs used u ∙ omega (arith, so.at);
-      high = omega (arith, long, at.fits);
-      next = λ h. ap begins (on ∙ ap (λ x. t + x) long) ∙ at.next (omega (arith, long));
-      each = λ k lk. elim (cases_lt k (length used)) [
-        | inl b ↦ rw (reach_front arcs used u k (omega arith), use_front used u k b) (so.each k b)
-        | inr g ↦
-            let same : k ≡ length used = omega (arith, length-append used (u ∷ [])) in
-            rw (same, reach_front arcs used u (length used) (omega arith), so.at, use_end used u) (l, is)
-      ];
-    }
+    search (rules, reach_end, reach_front, use_front, length-append, use_end)
 
 -- The table of uses.
 
@@ -91,8 +73,7 @@ module _ {faces : Faces} {cut marks : List Bool} (marked : IsMarked faces cut ma
 
     dart_is : (a : ℕ) (l : a < length arcs) (k : ℕ) → k < long_at arcs a → get_or (path_at arcs a).darts k 0
         ≡ easts mesh (start a l) k
-    dart_is a l k lk = ap (λ (xs : List ℕ). get_or xs k 0) (named.each a l).2
-        ∙ run_entry mesh (start a l) (long_at arcs a) k lk
+    dart_is a l k lk = search (rules, run_entry)
 
     first_is : (a : ℕ) (l : a < length arcs) {e : ℕ} → LiesAt mesh (path_at arcs a).darts true 0 e → e ≡ start a l
     first_is a l lies = lies ∙ dart_is a l 0 (named.each a l).1.run.some
@@ -130,7 +111,7 @@ module _ {faces : Faces} {cut marks : List Bool} (marked : IsMarked faces cut ma
         let kb : long_at arcs b - 1 < long_at arcs b = omega (arith, rb.some) in
         let low = λ (s n : ℕ) (run : IsRun mesh (is_on cut) (is_node faces cut) s n) (k : ℕ) (l : k < n).
         run_low mesh marked.laws (is_on cut) marked.full (is_node faces cut) marked.stand s n run k l in
-        let same = twin_same mesh marked.laws _ _ e (low (start a la) (long_at arcs a) ra (long_at arcs a - 1) ka)
+        let same = twin_same marked.laws _ _ e (low (start a la) (long_at arcs a) ra (long_at arcs a - 1) ka)
         (low (start b lb) (long_at arcs b) rb (long_at arcs b - 1) kb) (last_is a la p) (last_is b lb q) in (
           same_arc a b la lb (same_place mesh marked.laws (is_on cut) marked.full (is_node faces cut) marked.stand
               (start a la) (long_at arcs a) (start b lb) (long_at arcs b) ra rb (long_at arcs a - 1)
@@ -150,18 +131,10 @@ module _ {faces : Faces} {cut marks : List Bool} (marked : IsMarked faces cut ma
 
       -- After the first entry.
       old1 : (e : ℕ) → (e ≡ first → ⊥) → use_in one e ≡ use_in uses e
-      old1 e ne = rw put (get_or-set_other uses first e (record { arc = a; forward = true })
-          (record { arc = 0; forward = true }) ne)
+      old1 e ne = search (rules, get_or-set_other)
 
       here1 : {e : ℕ} → LiesAt mesh (path_at arcs a).darts true 0 e → use_in one e ≡ record { arc = a; forward = true }
-      here1 lies = rw (lies ∙ sym first_at, put) (get_or-set_same uses first (record { arc = a; forward = true })
-          (record { arc = 0; forward = true }) (omega (arith, so.long)))
-
-      earlier : (b e : ℕ) (f : Bool) → b < a → b < length arcs → LiesAt mesh (path_at arcs b).darts f 0 e
-          → use_in one e ≡ record { arc = b; forward = f }
-      earlier b e f less lb lies =
-          old1 e (λ s. absurd (omega (arith, less, (one_use b a e f true lb la lies (s ∙ first_at)).0)))
-          ∙ so.each b e f less lb lies
+      here1 lies = search rules
 
       -- The use of arc a backward ends where the twin of its last dart is.
       last_lies : {e : ℕ} → LiesAt mesh (path_at arcs a).darts false 0 e → last ≡ Some e
@@ -170,50 +143,52 @@ module _ {faces : Faces} {cut marks : List Bool} (marked : IsMarked faces cut ma
       lies_last : {t : ℕ} → last ≡ Some t → LiesAt mesh (path_at arcs a).darts false 0 t
       lies_last is = ap (λ x. twin_of faces (get_or (path_at arcs a).darts x 0)) (omega arith) ∙ (sym last_at ∙ is)
 
-      pub uses_more : HasUsesBelow faces arcs (a + 1) new
-      uses_more = by_last last refl
+      -- What the table has behind each dart that the arc begins with, either way, and behind all others.
+      news : (o : Option ℕ) → last ≡ o → (length new ≡ darts faces)
+          × ((e : ℕ) (f : Bool) → LiesAt mesh (path_at arcs a).darts f 0 e
+          → use_in new e ≡ record { arc = a; forward = f })
+          × ((e : ℕ) → ((f : Bool) → LiesAt mesh (path_at arcs a).darts f 0 e → ⊥) → use_in new e ≡ use_in uses e)
+      news None is = rw (off is) (long1, hit, λ e none. old1 e (λ s. none true (s ∙ first_at)))
         where
-          by_last : (o : Option ℕ) → last ≡ o → HasUsesBelow faces arcs (a + 1) new
-          by_last None is = record {
-            long = rw (off is) long1;
-            each = λ b e f lb l lies. rw (off is) (elim (last_or a b lb) [
-              | inl less ↦ earlier b e f less l lies
-              | inr s ↦ rw s (here e f (rw s at lies))
-            ]);
-          }
-            where
-              here : (e : ℕ) (f : Bool) → LiesAt mesh (path_at arcs a).darts f 0 e
-                  → use_in one e ≡ record { arc = a; forward = f }
-              here e true lies = here1 lies
-              here e false lies = absurd (none-some e (sym is ∙ last_lies lies))
-          by_last (Some t) is = record {
-            long = rw (on t is) (length-set one t (record { arc = a; forward = false }) ∙ long1);
-            each = λ b e f lb l lies. rw (on t is) (elim (last_or a b lb) [
-              | inl less ↦ old2 e (λ s. absurd (omega (
-                arith,
-                less,
-                (one_use b a e f false l la lies (rw s (lies_last is))).0,
-              ))) ∙ earlier b e f less l lies
-              | inr s ↦ rw s (here e f (rw s at lies))
-            ]);
-          }
-            where
-              t_low : t < darts faces
-              t_low = marked.laws.twin_low (get_or (path_at arcs a).darts (long_at arcs a - 1) 0) t
-                  (named_low marked named a (long_at arcs a - 1) la (omega (arith, (named.each a la).1.run.some)))
-                  (sym last_at ∙ is)
+          hit : (e : ℕ) (f : Bool) → LiesAt mesh (path_at arcs a).darts f 0 e
+              → use_in one e ≡ record { arc = a; forward = f }
+          hit e true lies = here1 lies
+          hit e false lies = absurd (none-some e (sym is ∙ last_lies lies))
+      news (Some t) is = rw (on t is) (
+        length-set one t back ∙ long1,
+        hit,
+        λ e none. old2 e (λ s. none false (rw s (lies_last is))) ∙ old1 e (λ s. none true (s ∙ first_at)),
+      )
+        where
+          back : SideArc
+          back = record { arc = a; forward = false }
 
-              old2 : (e : ℕ) → (e ≡ t → ⊥) → use_in (set one t (record { arc = a; forward = false })) e ≡ use_in one e
-              old2 e ne = get_or-set_other one t e (record { arc = a; forward = false })
-                  (record { arc = 0; forward = true }) ne
+          old2 : (e : ℕ) → (e ≡ t → ⊥) → use_in (set one t back) e ≡ use_in one e
+          old2 e ne = get_or-set_other one t e back (record { arc = 0; forward = true }) ne
 
-              here : (e : ℕ) (f : Bool) → LiesAt mesh (path_at arcs a).darts f 0 e
-                  → use_in (set one t (record { arc = a; forward = false })) e ≡ record { arc = a; forward = f }
-              here e true lies = old2 e (λ s. false≢true
-                  (one_use a a e false true la la (rw s (lies_last is)) lies).1) ∙ here1 lies
-              here e false lies = rw (same_Some e t (sym (last_lies lies) ∙ is))
-                  (get_or-set_same one t (record { arc = a; forward = false }) (record { arc = 0; forward = true })
-                  (omega (arith, long1, t_low)))
+          t_low : t < darts faces
+          t_low = marked.laws.twin_low (get_or (path_at arcs a).darts (long_at arcs a - 1) 0) t
+              (named_low marked named a (long_at arcs a - 1) la (omega (arith, (named.each a la).1.run.some)))
+              (sym last_at ∙ is)
+
+          hit : (e : ℕ) (f : Bool) → LiesAt mesh (path_at arcs a).darts f 0 e
+              → use_in (set one t back) e ≡ record { arc = a; forward = f }
+          hit e true lies = old2 e (λ s. false≢true (one_use a a e false true la la (rw s (lies_last is)) lies).1)
+              ∙ here1 lies
+          hit e false lies = rw (same_Some e t (sym (last_lies lies) ∙ is)) (get_or-set_same one t back
+              (record { arc = 0; forward = true }) (omega (arith, long1, t_low)))
+
+      pub uses_more : HasUsesBelow faces arcs (a + 1) new
+      uses_more =
+          let (long, hit, miss) = news last refl in
+          record {
+            long = long;
+            each = λ b e f lb l lies. elim (last_or a b lb) [
+              | inl less ↦ miss e (λ g there. absurd (omega (arith, less, (one_use b a e f g l la lies there).0)))
+                  ∙ so.each b e f less l lies
+              | inr s ↦ rw s (hit e f (rw s at lies))
+            ];
+          }
 
   -- At the end each dart of the cut that leaves a node begins a use.
   module _ {nodes : List ℕ} {m : ℕ} {arcs : List Path} (far : darts faces ≤ m)
@@ -223,6 +198,28 @@ module _ {faces : Faces} {cut marks : List Bool} (marked : IsMarked faces cut ma
         × ((path_at arcs a).darts ≡ run_list mesh s n)
     arc_of s n named = so.all s n named (omega (arith, name_low marked s n named))
 
+    -- Each run is an arc or the way back along one, and its darts lie there at their places.
+    pub lies_in : (s n k : ℕ) → IsRun mesh (is_on cut) (is_node faces cut) s n → k < n → (a : ℕ) × (f : Bool)
+        × (a < length arcs) × (long_at arcs a ≡ n) × LiesAt mesh (path_at arcs a).darts f k (easts mesh s k)
+    lies_in s n k run lk = elim (named_or_back mesh marked.laws (is_on cut) marked.full (is_node faces cut)
+        marked.stand s n run) [
+          | inl named ↦
+              let (a, la, is) = arc_of s n named in
+              let lies = sym (ap (λ (xs : List ℕ). get_or xs k 0) is ∙ run_entry mesh s n k lk) in
+              (a, true, la, ap length is ∙ run_long mesh s n, lies)
+          | inr (r, back, named) ↦
+              let (a, la, is) = arc_of r n named in
+              let long : long_at arcs a ≡ n = ap length is ∙ run_long mesh r n in
+              let place : long_at arcs a - 1 - k ≡ n - suc k = omega arith in
+              let there = ap (λ x. get_or (path_at arcs a).darts x 0) place
+              ∙ (ap (λ (xs : List ℕ). get_or xs (n - suc k) 0) is ∙ run_entry mesh r n (n - suc k) (omega arith)) in
+              let low = run_low mesh marked.laws (is_on cut) marked.full (is_node faces cut) marked.stand s n run k
+              lk in
+              let lies = ap (twin_of faces) there ∙ marked.laws.twin_twin (easts mesh s k) (easts mesh r (n - suc k))
+              low (back.twin k (n - suc k) (omega arith)) in
+              (a, false, la, long, lies)
+        ]
+
     pub uses_done : {uses : List SideArc} {ps : List Rectangle} {face : ℕ → ℕ}
         → HasUsesBelow faces arcs (length arcs) uses → IsPartition mesh (is_on cut) face ps
         → HasUses faces cut arcs uses
@@ -231,30 +228,16 @@ module _ {faces : Faces} {cut marks : List Bool} (marked : IsMarked faces cut ma
         marked.stand face ps parts d l on in
         at s n k run lk e
       where
-        found : (a : ℕ) (f : Bool) → a < length arcs → LiesAt mesh (path_at arcs a).darts f 0 d
-            → ((use_in uses d).arc < length arcs)
-            × LiesAt mesh (path_at arcs (use_in uses d).arc).darts (use_in uses d).forward 0 d
-        found a f la lies = rw (table.each a d f la la lies) (la, lies)
-
         at : (s n k : ℕ) → IsRun mesh (is_on cut) (is_node faces cut) s n → k < n → easts mesh s k ≡ d
             → ((use_in uses d).arc < length arcs)
             × LiesAt mesh (path_at arcs (use_in uses d).arc).darts (use_in uses d).forward 0 d
         at s n (suc k) run lk e =
             absurd (false≢true (sym (run_inner mesh marked.laws (is_on cut) marked.full (is_node faces cut) marked.stand
             s n run k lk) ∙ (ap (λ x. is_node faces cut (from_of faces x)) e ∙ begins)))
-        at s n zero run lk e = elim (named_or_back mesh marked.laws (is_on cut) marked.full (is_node faces cut)
-            marked.stand s n run) [
-              | inl named ↦ let (a, la, is) = arc_of s n named in
-                  found a true la (sym e ∙ sym (ap (λ (xs : List ℕ). get_or xs 0 0) is ∙ run_entry mesh s n 0 lk))
-              | inr (r, back, named) ↦
-                  let (a, la, is) = arc_of r n named in
-                  let size : long_at arcs a ≡ n = ap length is ∙ run_long mesh r n in
-                  let last : get_or (path_at arcs a).darts (long_at arcs a - 1 - 0) 0 ≡ easts mesh r (n - 1) =
-                  ap (λ x. get_or (path_at arcs a).darts x 0) (omega arith)
-                  ∙ (ap (λ (xs : List ℕ). get_or xs (n - 1) 0) is ∙ run_entry mesh r n (n - 1) (omega arith)) in
-                  found a false la (ap (twin_of faces) last ∙ (marked.laws.twin_twin s (easts mesh r (n - 1)) run.low
-                  (back.twin 0 (n - 1) (omega arith)) ∙ ap Some e))
-            ]
+        at s n zero run lk e =
+            let (a, f, la, long, there) = lies_in s n 0 run lk in
+            let lies = subst (λ (x : ℕ). LiesAt mesh (path_at arcs a).darts f 0 x) e there in
+            rw (table.each a d f la la lies) (la, lies)
 
   -- The list of arcs is one of named runs.
   pub to_named : {nodes : List ℕ} {m : ℕ} {arcs : List Path} → AreArcsBelow faces cut nodes m arcs

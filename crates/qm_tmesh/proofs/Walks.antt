@@ -1,9 +1,8 @@
 -- The loops over fans, runs and names, turn by turn.
-use Rattle.std.proofs.Common.{◌≡◌, ℕ, suc, ◌+◌, ◌<◌, ◌≤◌, Bool, true, false, cond, List, [], ◌∷◌, ◌++◌, length, get_or}
-use Rattle.std.proofs.Common.{set, Some, option_map, sym, ◌∙◌, ap, subst, inl, inr, length-append, arith}
+use Rattle.std.proofs.Common.{rules, ◌≡◌, ℕ, suc, ◌+◌, ◌<◌, ◌≤◌, Bool, true, false, cond, List, [], ◌∷◌, ◌++◌, length}
+use Rattle.std.proofs.Common.{get_or, set, Some, option_map, sym, ◌∙◌, ap, subst, inl, inr, length-append, arith}
 use Rattle.std.proofs.lemmas.List.{get_or-set_same, get_or-set_other, length-set, get_or_append_left, get_or-append-add}
-use Rattle.std.proofs.lemmas.List.{append-nil}
-use Rattle.std.proofs.{lemmas.Bool.cases_eq, lemmas.Bool.false≢true, lemmas.List.FromFn.map-range_with_len_more}
+use Rattle.std.proofs.{lemmas.Bool.cases_eq, lemmas.List.FromFn.map-range_with_len_more}
 use Rattle.def_mesh.specs.{Darts.darts, Darts.from_of, Darts.next_of, Darts.twin_of, Darts.straight_of, Faces.Faces}
 use Rattle.def_mesh.specs.{Vertices.fan_of, HalfEdges.HalfEdges, HalfEdges.half_edges}
 use Rattle.def_cut.specs.{FullCut.is_on, Grids.least_of, Steps.step_east, Steps.easts}
@@ -19,6 +18,19 @@ use Rattle.{mesh_laws.proofs.Flood.all_below, layout_laws.specs.Named.run_list, 
 -- What holds below a number and at it holds below the next.
 pub below_next : (P : ℕ → Type 0) (i : ℕ) → ((k : ℕ) → k < i → P k) → P i → (k : ℕ) → k < i + 1 → P k
 below_next P i before here k l = elim (cases_eq k i) [ inl e ↦ subst P (sym e) here | inr ne ↦ before k (omega arith) ]
+
+-- What was put last stands there, and what holds of each before and of the last holds of each.
+pub push_last : {X : Type 0} (xs : List X) (y d : X) → get_or (xs ++ y ∷ []) (length xs) d ≡ y
+push_last xs y d = let e : length xs ≡ length xs + 0 = omega arith in
+    ap (λ k. get_or (xs ++ y ∷ []) k d) e ∙ get_or-append-add xs (y ∷ []) 0 d
+
+pub push_each : {X : Type 0} (P : ℕ → X → Type 0) (xs : List X) (y d : X)
+    → ((k : ℕ) → k < length xs → P k (get_or xs k d)) → P (length xs) y
+    → (k : ℕ) → k < length (xs ++ y ∷ []) → P k (get_or (xs ++ y ∷ []) k d)
+push_each P xs y d each here k l = elim (last_or (length xs) k (omega (arith, length-append xs (y ∷ [])))) [
+  | inl b ↦ rw (get_or_append_left xs (y ∷ []) d k b) (each k b)
+  | inr e ↦ rw (e, push_last xs y d) here
+]
 
 -- The darts of a fan are darts.
 pub fan_low : (faces : Faces) (v : ℕ) (fan : List ℕ) → fan ≡ fan_of faces v → (k : ℕ) → k < length fan
@@ -49,8 +61,7 @@ module _ {faces : Faces} {cut nodes : List Bool} (marked : IsMarked faces cut no
     open walk use {low, on, begins, at as d_is, inner}
 
     walk_low : (d < darts faces) × (is_on cut d ≡ true)
-    walk_low =
-        rw d_is (walked mesh marked.laws (is_on cut) marked.full node marked.stand s i low on inner i (omega arith))
+    walk_low = search (rules, walked)
 
     pub walk_straight : is_node faces cut (end_vertex (half_edges faces) d) ≡ false → straight_of faces d
         ≡ Some (step_east (half_edges faces) d)
@@ -106,8 +117,7 @@ module _ {faces : Faces} {cut nodes : List Bool} (marked : IsMarked faces cut no
         omega (arith, le, named.named k t (omega (arith, same)) (ap (twin_of faces) (sym (dart_is k l)) ∙ tw))
 
     pub run_darts : (k : ℕ) → k < length list → get_or list k 0 < darts faces
-    run_darts k l =
-        rw (dart_is k l) (run_low mesh marked.laws (is_on cut) marked.full node marked.stand s (length list) run k l)
+    run_darts k l = search (rules, dart_is, run_low)
 
   -- The name of a run is one of its darts.
   pub name_dart : (s n : ℕ) → IsNamedRun faces cut s n → (k : ℕ) × (k < n)
@@ -163,37 +173,20 @@ module _ (p : ℕ → Bool) (v : ℕ) (list places more : List ℕ) (listed : li
   place_old u l = rw put (get_or_append_left places (length list ∷ []) 0 u (omega arith))
 
   place_new : get_or more v 0 ≡ length list
-  place_new =
-      let e : v ≡ length places + 0 = omega arith in
-      rw put (ap (λ k. get_or (places ++ length list ∷ []) k 0) e ∙ get_or-append-add places (length list ∷ []) 0 0)
+  place_new = rw put (ap (λ k. get_or (places ++ length list ∷ []) k 0) (sym long) ∙ push_last places (length list) 0)
 
-  pub list_on : (new : List ℕ) → new ≡ list ++ v ∷ [] → p v ≡ true → (new ≡ filter p (range_with_len 0 (v + 1)))
+  pub list_more : (new : List ℕ) → new ≡ list ++ cond (p v) (v ∷ []) [] → (new ≡ filter p (range_with_len 0 (v + 1)))
       × ((u : ℕ) → u < v + 1 → p u ≡ true → (get_or more u 0 < length new) × (get_or new (get_or more u 0) 0 ≡ u))
-  list_on new is on = (
-    is ∙ (ap (λ xs. xs ++ v ∷ []) listed ∙ (ap (λ b. filter p (range_with_len 0 v) ++ cond b (v ∷ []) []) (sym on)
-        ∙ sym (filter_range_more p v))),
+  list_more new is = (
+    is ∙ (ap (λ xs. xs ++ cond (p v) (v ∷ []) []) listed ∙ sym (filter_range_more p v)),
     λ u l pu. elim (last_or v u l) [
-      | inl less ↦ let s = stands u less pu in rw (place_old u less, is) (
-        omega (arith, s.0, size),
-        get_or_append_left list (v ∷ []) 0 (get_or places u 0) s.0 ∙ s.1,
-      )
-      | inr e ↦ let z : length list ≡ length list + 0 = omega arith in rw (e, place_new, is) (
-        omega (arith, size),
-        ap (λ k. get_or (list ++ v ∷ []) k 0) z ∙ get_or-append-add list (v ∷ []) 0 0,
-      )
-    ],
-  )
-    where
-      size : length (list ++ v ∷ []) ≡ length list + 1
-      size = length-append list (v ∷ [])
-
-  pub list_off : p v ≡ false → (list ≡ filter p (range_with_len 0 (v + 1))) × ((u : ℕ) → u < v + 1 → p u ≡ true
-      → (get_or more u 0 < length list) × (get_or list (get_or more u 0) 0 ≡ u))
-  list_off off = (
-    listed ∙ (sym (append-nil (filter p (range_with_len 0 v)))
-        ∙ (ap (λ b. filter p (range_with_len 0 v) ++ cond b (v ∷ []) []) (sym off) ∙ sym (filter_range_more p v))),
-    λ u l pu. elim (last_or v u l) [
-      | inl less ↦ rw (place_old u less) (stands u less pu)
-      | inr e ↦ absurd (false≢true (sym off ∙ rw e at pu))
+      | inl less ↦
+          let s = stands u less pu in
+          let tail = cond (p v) (v ∷ []) [] in
+          let same = get_or_append_left list tail 0 (get_or places u 0) s.0 in
+          rw (place_old u less, is) (omega (arith, s.0, length-append list tail), same ∙ s.1)
+      | inr e ↦
+          let on : p v ≡ true = rw e at pu in
+          rw (e, place_new, is, on) (omega (arith, length-append list (v ∷ [])), push_last list v 0)
     ],
   )

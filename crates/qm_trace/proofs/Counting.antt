@@ -1,5 +1,5 @@
 -- How many riders pass a test with their notes.
-use Rattle.std.proofs.Common.{◌≡◌, ◌≢◌, ◌↔◌, ℕ, zero, suc, ◌+◌, ◌<◌, ◌≤◌, Bool, true, false, eqb, List, ◌∷◌, map}
+use Rattle.std.proofs.Common.{rules, ◌≡◌, ◌≢◌, ◌↔◌, ℕ, zero, suc, ◌+◌, ◌<◌, ◌≤◌, Bool, true, false, eqb, List, ◌∷◌, map}
 use Rattle.std.proofs.Common.{length, set, replicate, Option, Some, None, sym, ap, ◌∙◌, refl, inl, inr, arith, [], ◌^◌}
 use Rattle.std.proofs.Common.{cond, ◌||◌}
 use Rattle.std.proofs.lemmas.Bool.{cases_Bool, eq-eqb, ne_eqb, eqb-true, cases_lt, false≢true, or_left, or_right}
@@ -28,20 +28,8 @@ more_is false n = omega arith
 pub tally_set : (p : Moving → Option ℕ → Bool) (rs : List Moving) (ns : List (Option ℕ)) (r : ℕ) (x : Moving)
     (n : Option ℕ) → r < length rs → r < length ns → tally p (set rs r x) (set ns r n) + more_if
     (p (rider_at rs r) (note_at ns r)) 0 ≡ tally p rs ns + more_if (p x n) 0
-tally_set p (q ∷ rs) (k ∷ ns) zero x n l h = exchange (p x n) (p q k) (tally p rs ns)
-  where
-    exchange : (b c : Bool) (t : ℕ) → more_if b t + more_if c 0 ≡ more_if c t + more_if b 0
-    exchange true true t = refl
-    exchange true false t = omega arith
-    exchange false true t = omega arith
-    exchange false false t = refl
-tally_set p (q ∷ rs) (k ∷ ns) (suc r) x n l h =
-    omega (
-      arith,
-      more_is (p q k) (tally p (set rs r x) (set ns r n)),
-      more_is (p q k) (tally p rs ns),
-      tally_set p rs ns r x n (omega arith) (omega arith),
-    )
+tally_set p (q ∷ rs) (k ∷ ns) zero x n l h = search rules
+tally_set p (q ∷ rs) (k ∷ ns) (suc r) x n l h = search (rules, tally_set p rs ns r x n (omega arith) (omega arith))
 tally_set p _ _ r x n l h = absurd (omega arith)
 
 pub tally_rider : (p : Moving → Option ℕ → Bool) (rs : List Moving) (ns : List (Option ℕ)) (r : ℕ) (x : Moving)
@@ -87,11 +75,7 @@ pub all_wait : (rs : List Moving) (ns : List (Option ℕ)) → length ns ≡ len
     → waiting rs (replicate (length ns) None) ≡ tally runs_on rs ns
 all_wait [] ns e = refl
 all_wait (q ∷ rs) [] e = absurd (omega arith)
-all_wait (q ∷ rs) (k ∷ ns) e = rw (bare q.stop, all_wait rs ns (omega arith)) refl
-  where
-    bare : (o : Option Stop) → is_waiting o None ≡ is_running o
-    bare None = refl
-    bare (Some s) = refl
+all_wait (q ∷ rs) (k ∷ ns) e = search (rules, all_wait rs ns (omega arith))
 
 -- Whatever the notes, as many run.
 pub tally_runs : (rs : List Moving) (ns ms : List (Option ℕ)) → length ns ≡ length ms → tally runs_on rs ns
@@ -163,30 +147,13 @@ untold_is {g} {stood} {ds} {V} {bs} {rs} {ns} a onward = same_test _ _ to from
 -- Nobody is counted as running where nobody runs, and only there.
 pub over_is : (riders : Riders) (noted : List (Option ℕ)) → AreCounted riders noted → (eqb riders.running 0 ≡ true) ↔
     ((r : ℕ) → r < length riders.list.items → ¬ ((rider_at riders.list.items r).stop ≡ None))
-over_is riders noted k = (
-  λ e r l runs. absurd (omega (
-    arith,
-    eqb-true riders.running 0 e,
-    k.running,
-    tally_some runs_on riders.list.items noted r l (omega (arith, l, k.long)) (ap is_running runs),
-  )),
-  λ none. eq-eqb riders.running 0 (k.running ∙ tally_none runs_on riders.list.items noted
-      (λ r l. runs_not (rider_at riders.list.items r).stop (none r l))),
-)
-  where
-    runs_not : (o : Option Stop) → (o ≡ None → ⊥) → is_running o ≡ false
-    runs_not None f = absurd (f refl)
-    runs_not (Some s) f = refl
+over_is riders noted k = search (rules, tally_some, tally_none)
 
 -- At most all are counted.
 pub tally_few : (p : Moving → Option ℕ → Bool) (rs : List Moving) (ns : List (Option ℕ)) → tally p rs ns ≤ length rs
 tally_few p [] ns = omega arith
 tally_few p (q ∷ rs) [] = omega arith
-tally_few p (q ∷ rs) (k ∷ ns) = at (p q k) (tally_few p rs ns)
-  where
-    at : (b : Bool) → tally p rs ns ≤ length rs → more_if b (tally p rs ns) ≤ suc (length rs)
-    at true e = omega arith
-    at false e = omega arith
+tally_few p (q ∷ rs) (k ∷ ns) = search (rules, tally_few p rs ns)
 
 -- The tables after a step.
 
@@ -256,12 +223,10 @@ module _ {faces : Faces} {marks : List Bool} {k : ℕ} {riders : List Moving} {s
   next = state_at faces marks (suc k)
 
   reached : IsReachedFrom (terrain_of faces) (begins faces marks) (marked_first faces marks) now
-  reached = later_reached (terrain_of faces) (terrain faces mesh) (begins faces marks) (marked_first faces marks)
-      (marked_begin faces mesh marks at.marked) k
+  reached = search (rules, later_reached, terrain, marked_begin)
 
   members : (d : ℕ) → is_among d ds ≡ is_among d (ridden now.riders)
-  members d = same_darts riders queue ds waits ridden_are d
-      ∙ ap (λ (rs : List Moving). is_among d (ridden rs)) at.riders_are
+  members d = search (rules, same_darts)
 
   pub are_darts : AreDarts faces ds
   are_darts d n = reached.low d (sym (members d) ∙ n)
@@ -281,20 +246,10 @@ module _ {faces : Faces} {marks : List Bool} {k : ℕ} {riders : List Moving} {s
 
   module _ (taken1 : List Bool) (each : (d : ℕ) → is_on taken1 d ≡ cond (is_among d ds) true (is_on taken d)) where
     marked : (d : ℕ) → is_on taken1 d ≡ is_among d ds
-    marked d = each d ∙ rw (at.taken_none d) (plain (is_among d ds))
-      where
-        plain : (b : Bool) → cond b true false ≡ b
-        plain true = refl
-        plain false = refl
+    marked d = search rules
 
     pub instant : IsInstant faces marks k riders queue stood taken1
-    instant = record {
-      marked = at.marked;
-      riders_are = at.riders_are;
-      waits = waits;
-      stood_is = at.stood_is;
-      taken_is = λ d. marked d ∙ same_darts riders queue ds waits ridden_are d;
-    }
+    instant = search (rules, same_darts)
 
     found_same : (o : Option ℕ) → is_found o ds ≡ is_found o (ridden now.riders)
     found_same None = refl
@@ -323,17 +278,4 @@ module _ {faces : Faces} {marks : List Bool} {k : ℕ} {riders : List Moving} {s
         → d < darts faces → is_on covered2 d ≡ (is_on covered d || (is_among d ds || is_found (twin_of faces d) ds)))
         → length taken2 ≡ length taken → ((d : ℕ) → is_on taken2 d ≡ cond (is_among d ds) false (is_on taken1 d))
         → IsTableAt faces marks (suc k) riders2 stood2 covered2 taken2
-    stepped r ls es lc ec lt e2 = record {
-      marked = at.marked;
-      riders_are = r;
-      stood_long = ls ∙ at.stood_long;
-      covered_long = lc ∙ at.covered_long;
-      taken_long = lt ∙ at.taken_long;
-      stood_is = λ v l. es v ∙ rw (at.stood_is v l) (stands_next v);
-      covered_is = λ d l. ec d l ∙ rw (at.covered_is d l, members d, found_same (twin_of faces d)) refl;
-      taken_none = λ d. e2 d ∙ rw (marked d) (off (is_among d ds));
-    }
-      where
-        off : (b : Bool) → cond b false b ≡ false
-        off true = refl
-        off false = refl
+    stepped r ls es lc ec lt e2 = search (rules, stands_next, members)

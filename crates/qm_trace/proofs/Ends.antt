@@ -1,14 +1,14 @@
 -- The tables and the queue before the first instant.
-use Rattle.std.proofs.Common.{◌≡◌, ℕ, ◌≤◌, Bool, false, not, ◌&&◌, List, [], ◌∷◌, length, map, ap, ◌∙◌, arith, ◌+◌}
-use Rattle.std.proofs.Common.{◌++◌, zero, suc, ◌-◌, ◌<◌, true, eqb, is_some, Option, Some, None, sym, refl, ◌||◌, inl}
-use Rattle.std.proofs.Common.{inr}
+use Rattle.std.proofs.Common.{rules, ◌≡◌, ℕ, ◌≤◌, Bool, false, not, ◌&&◌, List, [], ◌∷◌, length, map, ap, ◌∙◌, arith}
+use Rattle.std.proofs.Common.{◌+◌, ◌++◌, zero, suc, ◌-◌, ◌<◌, true, eqb, is_some, Option, Some, None, sym, refl, ◌||◌}
+use Rattle.std.proofs.Common.{inl, inr}
 use Rattle.std.proofs.lemmas.List.FromFn.{length-range_with_len, get_or-map-range_with_len, map-range_with_len_more}
 use Rattle.std.proofs.{lemmas.List.get_or-map, lemmas.List.length-map, lemmas.List.ext_get_or, lemmas.Bool.false≢true}
 use Rattle.def_mesh.specs.{Faces.Faces, Manifold.IsManifold, Vertices.vertex_count, Components.start_darts, Darts.darts}
 use Rattle.def_mesh.specs.{Darts.all_darts, Darts.twin_of, Kinds.is_inner, Kinds.is_singular}
 use Rattle.def_cut.specs.Motion.{begun, Terrain, State, ridden, is_among, ride_on, ride}
 use Rattle.def_cut.specs.{FullCut.is_on, Events.rider_at, declared.moving.Moving.Moving, Traced.AreRiders}
-use Rattle.def_cut.specs.{Traced.IsRiderOf, Traced.finish, Traced.is_cut, Traced.terrain_of, declared.graph.Rider.Rider}
+use Rattle.def_cut.specs.{Traced.IsRiderOf, Traced.is_cut, Traced.terrain_of, declared.graph.Rider.Rider}
 use Rattle.def_cut.specs.{declared.graph.Stop.Stop}
 use Rattle.def_feature.specs.{Marked.is_origin, Marked.marked_starts, Marked.marked_first, Marked.marked_last}
 use Rattle.def_feature.specs.{Marks.AreMarks}
@@ -75,10 +75,6 @@ map_more f n = map-range_with_len_more f 0 n n (omega arith)
 
 -- The queue of the next instant, and the end of the motion.
 
-runs_by : (o : Option Stop) → is_running o ≡ true → o ≡ None
-runs_by None e = refl
-runs_by (Some s) e = absurd (false≢true e)
-
 pub some_wait : (n : ℕ) → eqb n 0 ≡ false → 0 < n
 some_wait zero e = absurd (false≢true (sym e))
 some_wait (suc n) e = omega arith
@@ -112,20 +108,11 @@ module _ {faces : Faces} {marks : List Bool} {k : ℕ} {riders new : List Moving
 
   before : (r : ℕ) → r < length new → (rider_at new r).stop ≡ None → (rider_at riders r).stop ≡ None
   unfolding moved
-  before r l runs = ran (terrain_of faces) then.stood (ridden then.riders) (rider_at riders r) (rider_at riders r).stop
-      (sym (ap (λ (rs : List Moving). (rider_at rs r).stop) next ∙ ap (λ (x : Moving). x.stop)
-      (get_or-map moved riders r (begun 0) (begun 0) (omega (arith, l, long)))) ∙ runs) refl
+  before r l runs = search (rules, get_or-map, long)
 
   -- The queue of the riders that still run.
   pub next_queue : IsQueue new (filter (λ r. is_running (rider_at new r).stop) queue)
-  next_queue = record {
-    runs = λ r m. let p = from_filter (λ x. is_running (rider_at new x).stop) r queue m in
-        (queue_low r p.0, runs_by (rider_at new r).stop p.1);
-    all = λ r l runs. in_filter (λ x. is_running (rider_at new x).stop) r queue
-        (q.all r (omega (arith, l, long)) (before r l runs)) (ap is_running runs);
-    apart = each_once (filter (λ r. is_running (rider_at new r).stop) queue)
-        (apart_filter (λ r. is_running (rider_at new r).stop) queue (all_apart queue q.apart));
-  }
+  next_queue = search (rules, from_filter, in_filter, long, before, apart_filter)
 
 -- Nobody waits in the queue, so nobody rides.
 pub none_ride : (riders : List Moving) (queue : List ℕ) → IsQueue riders queue → length queue ≡ 0 → ridden riders ≡ []
@@ -138,8 +125,7 @@ none_ride riders [] q none = elim (cases_List (ridden riders)) [
 ]
 
 pub first_on : (faces : Faces) (marks : List Bool) → IsOnItsWay faces marks 0
-first_on faces marks more e = let s : more ≡ suc (vertex_count faces) = omega (arith, e) in
-    ap (λ k. finish (terrain_of faces) k (marked_first faces marks)) s
+first_on faces marks more e = search rules
 
 -- A step further on.
 pub next_on : {faces : Faces} {marks : List Bool} {k : ℕ} {riders : List Moving} {stood covered taken : List Bool}
@@ -167,11 +153,7 @@ end_at {faces} {marks} {k} t way low none =
     let left = suc (vertex_count faces) - k in
     let same = sym (at_rest (terrain_of faces) left (state_at faces marks k) (sym (ap ridden t.riders_are) ∙ none))
     ∙ way left (omega (arith, low)) in
-    record {
-      riders_are = t.riders_are ∙ ap (λ (s : State). s.riders) same;
-      covered_long = t.covered_long;
-      covered_is = λ d l. t.covered_is d l ∙ ap (λ (s : State). s.covered d) same;
-    }
+    search rules
 
 -- After as many steps as there are vertices nobody rides.
 pub all_over : {faces : Faces} → IsManifold faces → {marks : List Bool} → AreMarks faces marks → {riders : List Moving}

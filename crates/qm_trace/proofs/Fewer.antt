@@ -1,30 +1,27 @@
 -- Which events are possible, and how many can still happen.
-use Rattle.std.proofs.Common.{◌≡◌, ℕ, zero, suc, ◌+◌, ◌*◌, ◌-◌, ◌<◌, ◌≤◌, Bool, true, false, cond, List, ◌∷◌, ◌++◌}
-use Rattle.std.proofs.Common.{length, set, map, replicate, Option, Some, None, sym, ap, ◌∙◌, refl, arith, [], eqb, ◌||◌}
-use Rattle.std.proofs.Common.{get_or}
-use Rattle.std.proofs.lemmas.Bool.{false≢true, and_from, eq-eqb, not_from_false}
+use Rattle.std.proofs.Common.{rules, ◌≡◌, ℕ, zero, suc, ◌+◌, ◌*◌, ◌-◌, ◌<◌, ◌≤◌, Bool, true, false, cond, List, ◌∷◌}
+use Rattle.std.proofs.Common.{◌++◌, length, set, map, replicate, Option, Some, None, sym, ap, ◌∙◌, refl, arith, [], eqb}
+use Rattle.std.proofs.Common.{◌||◌, get_or}
+use Rattle.std.proofs.{lemmas.Bool.false≢true, Math.Bool.or-false}
 use Rattle.std.proofs.lemmas.List.{length-map, length-replicate, length-set, ext_get_or, get_or_default}
-use Rattle.std.proofs.Math.Bool.{or-false}
 use Rattle.def_mesh.specs.{Faces.Faces, Components.start_darts, Manifold.IsManifold, Darts.darts, Darts.to_of}
 use Rattle.def_mesh.specs.{Darts.from_of, Darts.twin_of, Vertices.vertex_count}
 use Rattle.def_cut.specs.Events.{after_ride_of, after_settling, all_told, closed, darts_in, decided_at}
 use Rattle.def_cut.specs.Events.{are_ends_settled, leads_to, rider_at, ridden_once_more, rides_in, told, told_at}
 use Rattle.def_cut.specs.Events.{first_event_state, Event, EventState, Leads, is_waiting, may_settle, note_at, May}
 use Rattle.def_cut.specs.Events.{NobodyRuns, mark_twin, marked_from, more_if, waiting, may_ride, after_event}
-use Rattle.def_cut.specs.{Motion.begun, Motion.stop_of, Motion.Terrain, Motion.start, Motion.is_among, FullCut.is_on}
-use Rattle.def_cut.specs.{Traced.terrain_of, declared.graph.Stop.Stop, declared.moving.Moving.Moving, Events.Event.Ride}
+use Rattle.def_cut.specs.{Motion.begun, Motion.Terrain, Motion.is_among, FullCut.is_on, Traced.terrain_of}
+use Rattle.def_cut.specs.{declared.graph.Stop.Stop, declared.moving.Moving.Moving, Events.Event.Ride}
 use Rattle.def_cut.specs.{Events.Event.Settle, Views.MotionView, Views.IsMotionOn, Views.with_state}
 use Rattle.motion_laws.proofs.{Marks.no_darts, Marks.from_marks, Marks.marked_long, Marks.none_on, Shown.still_runs}
 use Rattle.motion_laws.proofs.{Order.parts, Order.some_end, Onward.later_long}
 use Rattle.site_laws.proofs.{Laws.order_law, Sites.started}
-use Rattle.qm_trace.proofs.Reaching.{MayRide, Reached, as_long, leads_more, more_led, reached_by, ride_fresh}
-use Rattle.qm_trace.proofs.Reaching.{ride_noted, ride_runs}
-use Rattle.qm_trace.proofs.Counting.{tally_none, waiting_is, waits_now, all_run, all_wait, none_untold, tally_runs}
-use Rattle.qm_trace.proofs.Counting.{tally_set}
+use Rattle.qm_trace.proofs.Reaching.{MayRide, Reached, as_long, leads_more, more_led, reached_by, ride_runs}
+use Rattle.qm_trace.proofs.Counting.{tally_none, waiting_is, all_run, all_wait, none_untold, tally_runs, tally_set}
 use Rattle.qm_trace.proofs.Noting.{settle_low, MaySettle, Settling}
 use Rattle.qm_trace.specs.{Left.left_in, Left.left_of, Left.rides_of, Left.unset, declared.telling.Riders.Riders}
-use Rattle.qm_trace.specs.{Motions.AreCounted, Motions.AreNotes, Motions.is_untold, Motions.runs_on, Motions.tally}
-use Rattle.qm_trace.specs.{Tables.IsSite, declared.notes.Notes.Notes, declared.ground.Site.Site}
+use Rattle.qm_trace.specs.{Motions.AreCounted, Motions.AreNotes, Motions.tally, Tables.IsSite}
+use Rattle.qm_trace.specs.{declared.notes.Notes.Notes, declared.ground.Site.Site}
 use Rattle.{std.specs.List.list_any, mesh_laws.proofs.Flood.all_below}
 
 module _ {faces : Faces} {x : EventState} (now : Reached faces x) where
@@ -43,9 +40,7 @@ module _ {faces : Faces} {x : EventState} (now : Reached faces x) where
   pub settle_may : (v : ℕ) → ((r : ℕ) → r < length x.riders → is_waiting (rider_at x.riders r).stop (note_at x.noted r)
       ≡ false) → list_any (leads_to (terrain_of faces) v) (darts_in x.noted) ≡ true → is_on x.settled v ≡ false
       → may_settle (terrain_of faces) x v ≡ true
-  settle_may v none ends off =
-      and_from _ _ (eq-eqb _ _ (waiting_is x.riders x.noted ∙ tally_none waits_now x.riders x.noted none))
-      (and_from _ _ ends (not_from_false _ off))
+  settle_may v none ends off = search (rules, waiting_is, tally_none)
 
 -- Where a vertex may be settled, somebody runs.
 pub settle_not_over : {faces : Faces} {x : EventState} {v : ℕ} → MaySettle faces x v → NobodyRuns x → ⊥
@@ -68,18 +63,14 @@ told_rides g d q (Some s) = refl
 
 told_at_rides : (g : Terrain) (stood : ℕ → Bool) (ds : List ℕ) (v : ℕ) (q : Moving) (n : Option ℕ)
     → (told_at g stood ds v q n).rides ≡ q.rides
-told_at_rides g stood ds v q None = refl
-told_at_rides g stood ds v q (Some d) = elim (leads_to g v d)
-    as (λ t. (cond t (told g d q (stop_of g stood ds d)) q).rides ≡ q.rides)
-    [ true ↦ told_rides g d q (stop_of g stood ds d) | false ↦ refl ]
+told_at_rides g stood = search (rules, told_rides)
 
 rides_told : (g : Terrain) (stood : ℕ → Bool) (ds : List ℕ) (v : ℕ) (rs : List Moving) (ns : List (Option ℕ))
     → length ns ≡ length rs → rides_of (all_told g stood ds v rs ns) ≡ rides_of rs
 rides_told g stood ds v [] ns same = refl
 rides_told g stood ds v (q ∷ rs) [] same = absurd (omega (arith, same))
 rides_told g stood ds v (q ∷ rs) (n ∷ ns) same =
-    let rest = rides_told g stood ds v rs ns (omega (arith, same)) in
-    omega (arith, rest, told_at_rides g stood ds v q n)
+    search (rules, told_at_rides, rides_told g stood ds v rs ns (omega (arith, same)))
 
 no_rides : (starts : List ℕ) → rides_of (map begun starts) ≡ 0
 no_rides [] = refl
@@ -88,16 +79,13 @@ no_rides (d ∷ starts) = omega (arith, no_rides starts)
 -- Marks that are not set.
 unset_few : (marks : List Bool) → unset marks ≤ length marks
 unset_few [] = omega arith
-unset_few (true ∷ marks) = omega (arith, unset_few marks)
-unset_few (false ∷ marks) = omega (arith, unset_few marks)
+unset_few (t ∷ marks) = grind (arith, unset_few marks)
 
 unset_set : (marks : List Bool) (v : ℕ) → v < length marks → is_on marks v ≡ false → suc (unset (set marks v true))
     ≡ unset marks
 unset_set [] v low off = absurd (omega (arith, low))
-unset_set (true ∷ marks) zero low off = absurd (false≢true (sym off))
-unset_set (false ∷ marks) zero low off = refl
-unset_set (true ∷ marks) (suc v) low off = unset_set marks v (omega (arith, low)) off
-unset_set (false ∷ marks) (suc v) low off = ap suc (unset_set marks v (omega (arith, low)) off)
+unset_set (t ∷ marks) zero low off = grind arith
+unset_set (t ∷ marks) (suc v) low off = let rest = unset_set marks v (omega (arith, low)) off in grind arith
 
 left_few : (ds : List ℕ) (marks : List Bool) → left_in ds marks ≤ suc (length marks)
 left_few [] marks = omega arith
@@ -106,17 +94,14 @@ left_few (d ∷ ds) marks = omega (arith, unset_few marks)
 module _ {faces : Faces} {x : EventState} (now : Reached faces x) where
   -- There are as many riders as starts.
   pub riders_long : length x.riders ≡ length (start_darts faces)
-  riders_long = now.shown.riders.riders_long ∙ (later_long (terrain_of faces) (start (terrain_of faces)
-      (start_darts faces)) now.instant ∙ length-map (start_darts faces) begun)
+  riders_long = search (rules, later_long, length-map)
 
   -- A settling is no ride.
   decided_rides : (v : ℕ) → rides_of (decided_at (terrain_of faces) x v).riders ≡ rides_of x.riders
   decided_rides v = rides_told (terrain_of faces) (is_on x.stood) (darts_in x.noted) v x.riders x.noted (as_long now)
 
   settle_rides : (v : ℕ) → rides_of (after_settling (terrain_of faces) x v).riders ≡ rides_of x.riders
-  settle_rides v = elim (are_ends_settled (terrain_of faces) (set x.settled v true) (darts_in x.noted))
-      as (λ t. rides_of (cond t (closed (decided_at (terrain_of faces) x v)) (decided_at (terrain_of faces) x v)).riders
-      ≡ rides_of x.riders) [ true ↦ decided_rides v | false ↦ decided_rides v ]
+  settle_rides v = search (rules, decided_rides v)
 
 module _ {faces : Faces} (m : IsManifold faces) where
   -- The riders have made as many rides as the events.
@@ -150,12 +135,8 @@ ride_less {faces} {x} {r} k =
     let b = darts faces - suc (rides_of x.riders) in
     let n = length x.settled + 2 in
     let here : darts faces - rides_of x.riders ≡ suc b = omega (arith, more, few) in
-    let there : darts faces - rides_of (set x.riders r (ridden_once_more (rider_at x.riders r))) ≡ b =
-    ap (λ t. darts faces - t) more in
-    let old : (darts faces - rides_of x.riders) * n ≡ n + b * n = ap (λ t. t * n) here ∙ omega arith in
-    let new : (darts faces - rides_of (set x.riders r (ridden_once_more (rider_at x.riders r)))) * n ≡ b * n =
-    ap (λ t. t * n) there in
-    omega (arith, old, new, left_few (darts_in (after_ride_of (terrain_of faces) x r).noted) x.settled)
+    let some = left_few (darts_in (after_ride_of (terrain_of faces) x r).noted) x.settled in
+    rw (here, more) (omega (arith, some))
 
 by_noted : (faces : Faces) (v : ℕ) (ds : List ℕ) (settled : List Bool)
     → list_any (leads_to (terrain_of faces) v) ds ≡ true → left_in ds settled ≡ suc (unset settled)
@@ -219,11 +200,8 @@ first_stood {faces} m {nowhere} {stood} {starts} is long same each =
 pub first_counted : {riders : Riders} {noted : List (Option ℕ)} (starts : List ℕ) → riders.list.items ≡ map begun starts
     → riders.running ≡ length starts → riders.untold ≡ 0 → noted ≡ replicate (length starts) None
     → AreCounted riders noted
-first_counted {riders} {noted} starts list run untold is = record {
-  long = rw (is, list) (length-replicate (length starts) None ∙ sym (length-map starts begun));
-  running = rw (is, list) (run ∙ sym (all_run starts));
-  untold = rw is (untold ∙ sym (none_untold riders.list.items (length starts)));
-}
+first_counted {riders} {noted} starts list run untold is =
+    search (rules, length-replicate, length-map, all_run, none_untold)
 
 pub first_waits : (list : List Moving) (noted : List (Option ℕ)) (starts : List ℕ) → list ≡ map begun starts
     → noted ≡ replicate (length starts) None → length starts ≡ waiting list noted
@@ -236,15 +214,10 @@ first_waits list noted starts l n =
 module _ {riders : Riders} {noted new : List (Option ℕ)} (k : AreCounted riders noted)
     (is : new ≡ replicate (length noted) None) where
   pub counted_again : riders.untold ≡ 0 → AreCounted riders new
-  counted_again none = record {
-    long = ap length is ∙ (length-replicate (length noted) None ∙ k.long);
-    running = k.running ∙ tally_runs riders.list.items noted new
-        (sym (ap length is ∙ length-replicate (length noted) None));
-    untold = rw is (none ∙ sym (none_untold riders.list.items (length noted)));
-  }
+  counted_again none = search (rules, length-replicate, tally_runs, none_untold)
 
   pub waits_again : riders.running ≡ waiting riders.list.items new
-  waits_again = rw is (k.running ∙ sym (all_wait riders.list.items noted k.long))
+  waits_again = search (rules, all_wait)
 
 -- A ride of the rider that was read.
 module _ {faces : Faces} {x : EventState} {r : ℕ} (k : MayRide faces x r) {read : Moving}
@@ -253,37 +226,19 @@ module _ {faces : Faces} {x : EventState} {r : ℕ} (k : MayRide faces x r) {rea
   changed : (p : Moving → Option ℕ → Bool) (old new : Bool) → p read None ≡ old
       → p (ridden_once_more read) (Some read.dart) ≡ new → tally p (set x.riders r (ridden_once_more read)) noted
       + more_if old 0 ≡ tally p x.riders x.noted + more_if new 0
-  changed p old new o n = rw (is, ← o, ← n) (rw (ride_fresh k, ← same) at
-      (tally_set p x.riders x.noted r (ridden_once_more read) (Some read.dart) k.low (ride_noted k)))
+  changed p old new o n = search (rules, tally_set)
 
   runs : read.stop ≡ None
   runs = rw same (ride_runs k)
 
   -- As many run, one more is untold, and one less waits.
   pub rode_waits : waiting (set x.riders r (ridden_once_more read)) noted + 1 ≡ waiting x.riders x.noted
-  rode_waits = omega (
-    arith,
-    changed waits_now true false (rw runs refl) (rw runs refl),
-    waiting_is x.riders x.noted,
-    waiting_is (set x.riders r (ridden_once_more read)) noted,
-  )
+  rode_waits = search (rules, changed, waiting_is)
 
   pub rode_counted : {riders new : Riders} → AreCounted riders x.noted → riders.list.items ≡ x.riders
       → new.list.items ≡ set x.riders r (ridden_once_more read) → new.running ≡ riders.running
       → new.untold ≡ riders.untold + 1 → AreCounted new noted
-  rode_counted counted old list run more = record {
-    long = rw (is, list) (length-set x.noted r _ ∙ (as_long k.now ∙ sym (length-set x.riders r _)));
-    running = rw list (omega (
-      arith,
-      rw old at counted.running,
-      changed runs_on true true (rw runs refl) (rw runs refl),
-    ));
-    untold = rw list (omega (
-      arith,
-      rw old at counted.untold,
-      changed is_untold false true (rw runs refl) (rw runs (eq-eqb read.dart read.dart refl)),
-    ));
-  }
+  rode_counted counted old list run more = search (rules, changed)
 
   -- The state after it.
   pub ride_state : {riders : List Moving} {covered : List Bool} → riders ≡ set x.riders r (ridden_once_more read)
@@ -304,9 +259,7 @@ reached_now m is on = rw is (reached_by m _ on.reached)
 -- A rider that may ride.
 pub rides : {faces : Faces} → IsManifold faces → {motion seen : MotionView} → motion ≡ seen → IsMotionOn faces seen
     → (r : ℕ) → r < length seen.starts → may_ride seen.state r ≡ true → MayRide faces motion.state r
-rides m is on r low may =
-    let now = reached_by m _ on.reached in
-    rw is (record { now = now; low = omega (arith, low, ap length on.started, riders_long now); may = may })
+rides m is on r low may = search (rules, reached_by m _ on.reached, riders_long (reached_by m _ on.reached))
 
 -- A motion after an event.
 pub event_on : {faces : Faces} → IsManifold faces → {motion : MotionView} → IsMotionOn faces motion → (e : Event)
@@ -328,7 +281,4 @@ settles m is on v may = rw is (record { now = reached_by m _ on.reached; may = m
 pub settling : {faces : Faces} {x : EventState} {v : ℕ} {notes : Notes} {site : Site} {read : Bool}
     → MaySettle faces x v → notes.noted.items ≡ x.noted → AreNotes notes → length notes.taken.items ≡ length x.covered
     → read ≡ get_or x.stood v read → IsSite faces read v site → Settling faces x v notes site
-settling {faces} {x} {v} {notes} {site} {read} k noted are long e at =
-    let stood : read ≡ is_on x.stood v =
-    e ∙ get_or_default x.stood v read false (omega (arith, settle_low k, k.now.shown.stood_long)) in
-    record { k = k; noted_is = noted; are = are; taken_long = long; at_v = rw stood at at }
+settling {faces} {x} {v} {notes} {site} {read} k noted are long e at = search (rules, get_or_default, settle_low)

@@ -1,15 +1,14 @@
 -- By the marks of an instant riders ride as the motion says.
-use Rattle.std.proofs.Common.{◌≡◌, ℕ, suc, ◌<◌, Bool, true, false, cond, not, ◌&&◌, List, length, map, Option, Some}
-use Rattle.std.proofs.Common.{None, sym, ap, ◌∙◌, refl, arith, ◌||◌, inl, inr}
-use Rattle.std.proofs.{lemmas.Bool.false≢true, lemmas.List.ext_get_or, lemmas.List.get_or-map, lemmas.List.length-map}
+use Rattle.std.proofs.Common.{rules, ◌≡◌, ℕ, suc, ◌<◌, Bool, true, false, cond, not, ◌&&◌, List, length, map, Option}
+use Rattle.std.proofs.Common.{Some, None, sym, ap, ◌∙◌, refl, arith, ◌||◌}
+use Rattle.std.proofs.{lemmas.List.ext_get_or, lemmas.List.get_or-map, lemmas.List.length-map}
 use Rattle.def_mesh.specs.{Darts.next_of, Darts.prev_of, Darts.twin_of, Darts.to_of, Faces.Faces, Manifold.IsManifold}
 use Rattle.def_mesh.specs.{Kinds.is_inner, Kinds.is_singular}
 use Rattle.def_cut.specs.Motion.{end_of, ridden, is_among, is_found, is_met, stop_of, after_ride, ride_on, ride, begun}
 use Rattle.def_cut.specs.Motion.{State, Terrain}
 use Rattle.def_cut.specs.{FullCut.is_on, declared.graph.Stop.Stop, declared.graph.Stop.TheVariants.Tie}
 use Rattle.def_cut.specs.{declared.moving.Moving.Moving, Traced.terrain_of, Events.rider_at}
-use Rattle.motion_laws.proofs.{Among.cases_Option, Shown.runs_ridden, Steps.two_bits, Onward.later_reached}
-use Rattle.motion_laws.proofs.{Bits.IsReachedFrom}
+use Rattle.motion_laws.proofs.{Shown.runs_ridden, Steps.two_bits, Onward.later_reached, Bits.IsReachedFrom}
 use Rattle.feature_laws.proofs.{Breaks.begins, First.marked_begin}
 use Rattle.qm_trace.specs.Tables.{IsInstant, AreRode, rode, stop_by, is_met_now, is_crowded, is_faced, state_at}
 use Rattle.{mesh_laws.proofs.Flood.all_below, site_laws.proofs.Sites.terrain, def_feature.specs.Marked.marked_first}
@@ -21,9 +20,7 @@ in_a_row false false false false w x y z u v f = f refl refl refl refl
 in_a_row _ _ _ _ w x y z u v f = refl
 
 tie_or_on : (a b : Bool) (t : Option Stop) → cond (a || b) t None ≡ cond (not a && not b) None t
-tie_or_on true b t = refl
-tie_or_on false true t = refl
-tie_or_on false false t = refl
+tie_or_on a b t = search rules
 
 -- In a state that is reached the marks `taken` say which darts are ridden.
 module _ {faces : Faces} (m : IsManifold faces) {begin : ℕ → Bool} {first s : State}
@@ -65,8 +62,7 @@ module _ {faces : Faces} (m : IsManifold faces) {marks : List Bool} {k : ℕ} {r
   now = state_at faces marks k
 
   reached : IsReachedFrom (terrain_of faces) (begins faces marks) (marked_first faces marks) now
-  reached = later_reached (terrain_of faces) (terrain faces m) (begins faces marks) (marked_first faces marks)
-      (marked_begin faces m marks i.marked) k
+  reached = search (rules, later_reached, terrain, marked_begin)
 
   -- A rider after the step.
   one_rider : (r : ℕ) → r < length riders → (b : Bool) → is_among r queue ≡ b
@@ -82,8 +78,7 @@ module _ {faces : Faces} (m : IsManifold faces) {marks : List Bool} {k : ℕ} {r
       (stop_same m reached taken (λ e. i.taken_is e ∙ ap (λ (rs : List Moving). is_among e (ridden rs)) i.riders_are) d
       (is_on stood (to_of faces d)) there (i.stood_is (to_of faces d) end_low))
       ∙ sym (ap (ride_on (terrain_of faces) now.stood (ridden now.riders) (rider_at riders r)) runs)
-  one_rider r l false off = elim (cases_Option (rider_at riders r).stop)
-      [ inl is ↦ absurd (false≢true (sym off ∙ i.waits.all r l is)) | inr (q, is) ↦ rw is refl ]
+  one_rider r l false off = search rules
 
   pub next_riders : (new : List Moving) → length new ≡ length riders → AreRode faces stood taken queue riders new
       → new ≡ (state_at faces marks (suc k)).riders

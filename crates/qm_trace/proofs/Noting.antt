@@ -1,11 +1,10 @@
 -- Notes that are made, and taken back.
-use Rattle.std.proofs.Common.{◌≡◌, ◌≢◌, ℕ, suc, ◌+◌, ◌<◌, ◌≤◌, Bool, true, false, cond, eqb, List, ◌∷◌, ◌++◌, length}
-use Rattle.std.proofs.Common.{get_or, set, take, replicate, Option, Some, None, sym, subst, ap, ◌∙◌, refl, inl, inr}
-use Rattle.std.proofs.Common.{arith, [], not}
-use Rattle.std.proofs.lemmas.Bool.{cases_eq, eq-eqb, false≢true, false_from_ne_true, or_left, or_right, ne_eqb}
-use Rattle.std.proofs.lemmas.Bool.{eqb-true}
-use Rattle.std.proofs.lemmas.List.{get_or-set_same, get_or-set_other, length-set, length-replicate, get_or_default}
-use Rattle.std.proofs.lemmas.List.{ext_get_or}
+use Rattle.std.proofs.Common.{rules, ◌≡◌, ◌≢◌, ℕ, suc, ◌+◌, ◌<◌, ◌≤◌, Bool, true, false, cond, eqb, List, ◌∷◌, ◌++◌}
+use Rattle.std.proofs.Common.{length, get_or, set, take, replicate, Option, Some, None, sym, subst, ap, ◌∙◌, refl, inl}
+use Rattle.std.proofs.Common.{inr, arith, [], not}
+use Rattle.std.proofs.lemmas.{Bool.cases_eq, Bool.eq-eqb, Bool.false≢true, Bool.false_from_ne_true, Bool.ne_eqb}
+use Rattle.std.proofs.lemmas.{Bool.eqb-true, List.get_or-set_same, List.get_or-set_other, List.length-set}
+use Rattle.std.proofs.lemmas.{List.length-replicate, List.get_or_default, List.ext_get_or}
 use Rattle.std.proofs.lemmas.Option.{none-some, same_Some}
 use Rattle.def_mesh.specs.{Faces.Faces, Darts.darts, Darts.to_of, Darts.from_of, Darts.next_of, Darts.prev_of}
 use Rattle.def_mesh.specs.{Vertices.fan_of, Vertices.vertex_count, Components.start_darts, Kinds.is_inner}
@@ -19,7 +18,7 @@ use Rattle.motion_laws.proofs.Marks.{noted_more, noted_short, noted_where}
 use Rattle.motion_laws.proofs.Order.{all_ridden, ends_then, parts, reached, since, some_end, stood_then, told_riders}
 use Rattle.motion_laws.proofs.Order.{v_low}
 use Rattle.motion_laws.proofs.{Among.among_cases, Among.cases_Option, Among.any_at, Among.any_where, Shown.noted_rides}
-use Rattle.motion_laws.proofs.{Shown.stop_alike, Shown.told_long, Shown.told_place, Steps.is_next, Steps.stands}
+use Rattle.motion_laws.proofs.{Shown.told_long, Shown.told_place, Steps.is_next, Steps.stands}
 use Rattle.qm_trace.specs.{declared.notes.Notes.Notes, Motions.AreNotes, Motions.CanTell, Motions.told_by}
 use Rattle.qm_trace.specs.{Motions.AreCounted, Tables.AreEachOnce, Tables.IsSite, Tables.stop_by, Tables.stop_here}
 use Rattle.qm_trace.specs.{declared.ground.Site.Site, declared.telling.Riders.Riders}
@@ -43,8 +42,7 @@ has_room notes r are low fresh = omega (
   apart_few (length notes.noted.items) (r ∷ notes.queue.items) (
     false_from_ne_true _ (λ a. let d = are.queue_is r a in none-some d.0 (sym fresh ∙ d.1)),
     all_apart notes.queue.items are.queue_apart,
-  ) (λ q a. elim (among_cases q r notes.queue.items a)
-      [ inl e ↦ rw e low | inr b ↦ let d = are.queue_is q b in noted_short notes.noted.items q d.0 d.1 ]),
+  ) (λ q a. search (rules, among_cases q r notes.queue.items a, are.queue_is, noted_short)),
 )
 
 -- One note more.
@@ -56,13 +54,7 @@ pub one_note : (notes new : Notes) (r d : ℕ) → AreNotes notes → r < length
 one_note notes new r d are low d_low fresh alone is_noted is_taken is_places is_queue room = record {
   places_long = rw (is_places, is_taken, length-set notes.places.items d r, length-set notes.taken.items d true)
       are.places_long;
-  taken_is = λ e. rw (
-    is_taken,
-    is_noted,
-    mark_is notes.taken.items d e d_low,
-    are.taken_is e,
-    noted_more notes.noted.items r d e low fresh,
-  ) refl;
+  taken_is = λ e. search (rules, mark_is, are.taken_is, noted_more);
   slot = λ q e n.
       let m = rw is_noted at n in
       rw is_places (elim (cases_eq q r) [
@@ -74,12 +66,8 @@ one_note notes new r d are low d_low fresh alone is_noted is_taken is_places is_
             get_or-set_other notes.places.items d e r 0
             (λ s. false≢true (sym alone ∙ rw s at (noted_among notes.noted.items q e old))) ∙ are.slot q e old
       ]);
-  queue_has = λ q e n.
-      let m = rw is_noted at n in
-      rw (is_queue, any_snoc (λ e. eqb q e) notes.queue.items r) (elim (cases_eq q r) [
-        | inl s ↦ or_right _ _ (eq-eqb q r s)
-        | inr ne ↦ or_left _ _ (are.queue_has q e (sym (get_or-set_other notes.noted.items r q (Some d) None ne) ∙ m))
-      ]);
+  queue_has = λ q e n. (let more = any_snoc (λ e. eqb q e) notes.queue.items r in
+      search (rules, cases_eq q r, more, are.queue_has, get_or-set_other));
   queue_is = λ q a. rw is_noted (elim (among_append q notes.queue.items (r ∷ []) (rw is_queue at a)) [
     | inl b ↦ let (e, n) = are.queue_is q b in
         (e, get_or-set_other notes.noted.items r q (Some d) None (differs q b) ∙ n)
@@ -94,8 +82,7 @@ one_note notes new r d are low d_low fresh alone is_noted is_taken is_places is_
   where
     -- Who is in the queue is another rider, since r had no note.
     differs : (q : ℕ) → is_among q notes.queue.items ≡ true → q ≢ r
-    differs q a s = let e = are.queue_is q a in
-        none-some e.0 (sym fresh ∙ (ap (note_at notes.noted.items) (sym s) ∙ e.1))
+    differs q a s = search rules
 
 -- No notes.
 pub are_none : (notes : Notes) (ns : List (Option ℕ)) → notes.noted.items ≡ replicate (length ns) None
@@ -126,8 +113,7 @@ pub note_back : {faces : Faces} {queue : List ℕ} {i : ℕ} {first noted : List
     → i < length queue → ((q : ℕ) → note_at noted q ≡ cond (is_among q (take i queue)) None (note_at first q))
     → ((r : ℕ) → is_among r queue ≡ true → (d : ℕ) × (note_at first r ≡ Some d) × (d < darts faces))
     → NoteBack faces queue i first noted
-note_back {faces} {queue} {i} apart place before notes =
-    record { apart = apart; place = place; before = before; note = notes (get_or queue i 0) (among_at queue i place) }
+note_back {faces} {queue} {i} apart place before notes = search (rules, among_at)
 
 module _ {faces : Faces} {queue : List ℕ} {i : ℕ} {first noted : List (Option ℕ)}
     (back : NoteBack faces queue i first noted) where
@@ -159,18 +145,13 @@ module _ {faces : Faces} {queue : List ℕ} {i : ℕ} {first noted : List (Optio
 
   -- Another note stays.
   stays : (q e : ℕ) → note_at noted q ≡ Some e → e ≢ d → note_at (set noted r None) q ≡ Some e
-  stays q e n differ = get_or-set_other noted r q None None
-      (λ s. differ (same_Some e d (sym n ∙ (ap (note_at noted) s ∙ still_noted)))) ∙ n
+  stays q e n differ = search rules
 
   -- A mark that stays belongs to another note.
   pub marks_back : (taken : List Bool) → note.0 < length taken
       → ((e : ℕ) → is_on taken e ≡ true → (q : ℕ) × (note_at noted q ≡ Some e)) → (e : ℕ)
       → is_on (set taken note.0 false) e ≡ true → (q : ℕ) × (note_at (set noted (get_or queue i 0) None) q ≡ Some e)
-  marks_back taken d_low old e on =
-      let q = old e (sym (get_or-set_other taken d e false false differ) ∙ on) in (q.0, stays q.0 e q.1 differ)
-    where
-      differ : e ≢ d
-      differ s = false≢true (sym (ap (is_on (set taken d false)) s ∙ get_or-set_same taken d false false d_low) ∙ on)
+  marks_back taken d_low old e on = search rules
 
   pub ends_back : (settled : List Bool) {v : ℕ} → v ≡ to_of faces note.0 → v < length settled
       → ((u : ℕ) → is_on settled u ≡ true → (q : ℕ) × (e : ℕ) × (note_at noted q ≡ Some e) × (to_of faces e ≡ u))
@@ -181,16 +162,6 @@ module _ {faces : Faces} {queue : List ℕ} {i : ℕ} {first noted : List (Optio
       (sym (ap (is_on (set settled v false)) s ∙ get_or-set_same settled v false false v_low) ∙ on) in
       let q = old u (sym (get_or-set_other settled v u false false differ) ∙ on) in
       (q.0, q.1, stays q.0 q.1 q.2 (λ s. differ (sym q.3 ∙ (ap (to_of faces) s ∙ sym v_is))), q.3)
-
--- Where the notes of the riders in the queue are taken back, none is left.
-pub cleared : (notes : Notes) (new : List (Option ℕ)) → AreNotes notes → ((r : ℕ) → note_at new r ≡ cond
-    (is_among r notes.queue.items) None (note_at notes.noted.items r)) → (r : ℕ) → note_at new r ≡ None
-cleared notes new are each r = rw (each r) (elim (cases_Option (note_at notes.noted.items r))
-    [ inl is ↦ rw is (both (is_among r notes.queue.items)) | inr (d, is) ↦ rw (are.queue_has r d is) refl ])
-  where
-    both : (b : Bool) → ◌≡◌ {A = Option ℕ} (cond b None None) None
-    both true = refl
-    both false = refl
 
 -- A settling: which riders it tells, how, and when the instant ends.
 
@@ -272,9 +243,7 @@ module _ {faces : Faces} {x : EventState} {v : ℕ} {notes : Notes} {site : Site
 
   stop_now_is : (d : ℕ) → is_among d (darts_in x.noted) ≡ true → to_of faces d ≡ v
       → stop_here faces site notes.taken.items d ≡ stop_of g (is_on x.stood) (darts_in x.noted) d
-  stop_now_is d n e = stop_then d n e ∙ (ap (λ (ds : List ℕ). stop_of g s.stood ds d) (sym all_noted)
-      ∙ stop_alike g s.stood (is_on x.stood) (darts_in x.noted) d
-      (ap s.stood e ∙ (sym then ∙ ap (is_on x.stood) (sym e))))
+  stop_now_is d n e = search (rules, stop_then, all_noted, then)
 
   -- Who goes on leaves its dart.
   leaves : (d : ℕ) → is_among d ds ≡ true → stop_of g s.stood ds d ≡ None → or_else (straight g d) d ≢ d

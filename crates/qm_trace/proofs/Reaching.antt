@@ -1,7 +1,7 @@
 -- The states that events reach on a mesh: what is noted, and how riders stand.
-use Rattle.std.proofs.Common.{◌≡◌, ℕ, zero, suc, ◌<◌, true, false, List, [], ◌∷◌, ◌++◌, length, None, sym, ap, ◌∙◌}
-use Rattle.std.proofs.Common.{refl, arith}
-use Rattle.std.proofs.{lemmas.Option.none-some, lemmas.Bool.false≢true, lemmas.Bool.false_from_ne_true}
+use Rattle.std.proofs.Common.{rules, ◌≡◌, ℕ, zero, suc, ◌<◌, true, false, List, [], ◌∷◌, ◌++◌, length, None, sym, ap}
+use Rattle.std.proofs.Common.{◌∙◌, refl, arith}
+use Rattle.std.proofs.{lemmas.Option.none-some, lemmas.Bool.false_from_ne_true}
 use Rattle.def_mesh.specs.{Faces.Faces, Darts.darts, Manifold.IsManifold, Vertices.vertex_count, Components.start_darts}
 use Rattle.def_cut.specs.Events.{EventState, darts_in, rider_at, note_at, may_ride, after_event, Event, May, Leads}
 use Rattle.def_cut.specs.Events.{first_event_state, rides_in, IsMotionOf}
@@ -21,9 +21,7 @@ leads_more g a x (f ∷ es) e l may = (l.0, leads_more g (after_event g a f) x e
 -- At most one rider runs along a dart.
 not_twice : (q : Moving) (rs : List Moving) (j : ℕ) → q.stop ≡ None → AreApart (ridden (q ∷ rs)) → j < length rs
     → (rider_at rs j).stop ≡ None → q.dart ≡ (rider_at rs j).dart → ⊥
-not_twice q rs j is a l runs e =
-    let b : AreApart (q.dart ∷ ridden rs) = rw is at a in
-    false≢true (sym b.0 ∙ (ap (λ d. is_among d (ridden rs)) e ∙ runs_ridden rs j l runs))
+not_twice q rs j is a l runs e = search (rules, runs_ridden)
 
 one_rider_on : (rs : List Moving) → AreApart (ridden rs) → (i j : ℕ) → i < length rs → j < length rs
     → (rider_at rs i).stop ≡ None → (rider_at rs j).stop ≡ None → (rider_at rs i).dart ≡ (rider_at rs j).dart → i ≡ j

@@ -1,8 +1,8 @@
 -- Marks at the darts of a list, one after another.
-use Rattle.std.proofs.Common.{◌≡◌, ℕ, ◌+◌, ◌<◌, Bool, true, false, cond, eqb, ◌||◌, List, [], ◌∷◌, ◌++◌, length, get_or}
-use Rattle.std.proofs.Common.{set, take, ap, ◌∙◌, refl, inl, inr, zero, suc, sym, arith, ◌≢◌, Option, Some, None}
-use Rattle.std.proofs.Common.{is_some}
-use Rattle.std.proofs.lemmas.Bool.{cases_eq, eq-eqb, ne_eqb, or_right, false≢true, false_from_ne_true, eqb-true}
+use Rattle.std.proofs.Common.{rules, ◌≡◌, ℕ, ◌+◌, ◌<◌, Bool, true, false, cond, eqb, ◌||◌, List, [], ◌∷◌, ◌++◌, length}
+use Rattle.std.proofs.Common.{get_or, set, take, ap, ◌∙◌, refl, inl, inr, zero, suc, sym, arith, ◌≢◌, Option, Some}
+use Rattle.std.proofs.Common.{None, is_some}
+use Rattle.std.proofs.lemmas.Bool.{cases_eq, eq-eqb, or_right, eqb-true}
 use Rattle.std.proofs.lemmas.List.{take_more, get_or-set_same, get_or-set_other, length-set}
 use Rattle.std.proofs.{Math.Bool.or-false, Math.Bool.or_assoc, lemmas.List.Folds.list_any-append}
 use Rattle.std.proofs.{lemmas.List.Elements.filter-append}
@@ -10,21 +10,21 @@ use Rattle.std.specs.List.{list_any, range_with_len, filter}
 use Rattle.def_cut.specs.{FullCut.is_on, Events.rider_at, Events.more_if, Events.note_at, Events.told, Motion.is_among}
 use Rattle.def_cut.specs.{Motion.begun, Motion.or_else, Motion.straight, declared.moving.Moving.Moving}
 use Rattle.def_cut.specs.{declared.graph.Stop.Stop, Traced.terrain_of}
-use Rattle.def_mesh.specs.{Faces.Faces, Darts.darts, Darts.all_darts, Darts.from_of, Darts.next_of, Darts.prev_of}
-use Rattle.def_mesh.specs.{Darts.to_of, Vertices.fan_of}
-use Rattle.motion_laws.proofs.{Among.among_cases, Among.apart_filter, Among.range_apart, Among.cases_Option}
-use Rattle.motion_laws.proofs.{Marks.among_at, Marks.noted_among, Marks.noted_where}
+use Rattle.def_mesh.specs.{Faces.Faces, Darts.darts, Darts.from_of, Darts.next_of, Darts.prev_of, Darts.to_of}
+use Rattle.def_mesh.specs.{Vertices.fan_of}
+use Rattle.motion_laws.proofs.{Among.apart_filter, Among.range_apart, Among.cases_Option, Marks.among_at}
+use Rattle.motion_laws.proofs.{Marks.noted_among, Marks.noted_where}
 use Rattle.qm_trace.specs.Motions.{AreNotes, CanTell, is_untold, runs_on, told_along, told_by, AreCounted, MayTell}
 use Rattle.qm_trace.specs.{Tables.AreEachOnce, Tables.AreRode, Tables.rode, Tables.is_running, Tables.stop_here}
 use Rattle.qm_trace.specs.{declared.ground.Site.Site, declared.notes.Notes.Notes, declared.telling.Riders.Riders}
-use Rattle.mesh_laws.proofs.Chains.{next_of-prev_of, prev_of-next_of, next_of_low, fan_of_is}
+use Rattle.mesh_laws.proofs.Chains.{next_of-prev_of, next_of_low, fan_of_is}
 use Rattle.feature_laws.proofs.Breaks.{from_fan, in_fan}
-use Rattle.qm_trace.proofs.{Ends.each_once, Counting.tally_rider, Counting.tally_some}
+use Rattle.qm_trace.proofs.{Counting.tally_rider, Counting.tally_some}
 use Rattle.{list_laws.proofs.Filters.range_more, sum_laws.proofs.Tests.same_test}
 
 -- One more at the end of a list.
 pub any_snoc : (p : ℕ → Bool) (xs : List ℕ) (x : ℕ) → list_any p (xs ++ x ∷ []) ≡ (list_any p xs || p x)
-any_snoc p xs x = list_any-append p xs (x ∷ []) ∙ ap (λ b. list_any p xs || b) (or-false (p x))
+any_snoc p xs x = search (rules, list_any-append, or-false)
 
 pub or_shift : (a b c : Bool) → ((a || b) || c) ≡ (a || (b || c))
 or_shift = or_assoc
@@ -43,24 +43,7 @@ pub set_more : {A : Type 0} (z : A) (ds : List ℕ) (i : ℕ) (xs old : List A) 
     → get_or ds i 0 < length xs → v ≡ f (get_or ds i 0) → (d : ℕ)
     → get_or xs d z ≡ cond (is_among d (take i ds)) (f d) (get_or old d z)
     → get_or (set xs (get_or ds i 0) v) d z ≡ cond (is_among d (take (i + 1) ds)) (f d) (get_or old d z)
-set_more z ds i xs old f v l low is d each =
-    let x = get_or ds i 0 in
-    elim (cases_eq d (get_or ds i 0)) [
-      | inl e ↦ rw (
-        e,
-        get_or-set_same xs x v z low,
-        among_more ds i x l,
-        eq-eqb x x refl,
-        or_right (is_among x (take i ds)) true refl,
-      ) is
-      | inr ne ↦ rw (
-        get_or-set_other xs x d v z ne,
-        each,
-        among_more ds i d l,
-        ne_eqb d x ne,
-        or-false (is_among d (take i ds)),
-      ) refl
-    ]
+set_more z ds i xs old f v l low is d each = search (rules, among_more)
 
 pub marks_more : (ds : List ℕ) (i : ℕ) (value : Bool) (marks old : List Bool) → i < length ds
     → get_or ds i 0 < length marks → ((d : ℕ) → is_on marks d ≡ cond (is_among d (take i ds)) value (is_on old d))
@@ -71,10 +54,7 @@ marks_more ds i value marks old l low each d = set_more false ds i marks old (λ
 pub once : (q : List ℕ) (i : ℕ) → AreEachOnce q → i < length q → is_among (get_or q i 0) (take i q) ≡ false
 once [] i a l = absurd (omega arith)
 once (x ∷ xs) zero a l = refl
-once (x ∷ xs) (suc i) a l = false_from_ne_true _ (λ m. elim (among_cases (get_or xs i 0) x (take i xs) m) [
-  | inl e ↦ false≢true (sym a.0 ∙ (ap (λ k. is_among k xs) (sym e) ∙ among_at xs i (omega arith)))
-  | inr k ↦ false≢true (sym (once xs i a.1 (omega arith)) ∙ k)
-])
+once (x ∷ xs) (suc i) a l = search (rules, among_at, once xs i a.1 (omega arith))
 
 -- The queue has been ridden through as far as place i.
 module _ (faces : Faces) (stood now : List Bool) (q : List ℕ) (i : ℕ) (old riders : List Moving) (a : AreEachOnce q)
@@ -115,13 +95,7 @@ module _ {faces : Faces} {site : Site} {notes : Notes} {riders : Riders} {r : �
 
   -- An untold rider runs, and its dart is noted.
   was : (rider.stop ≡ None) × (note_at noted r ≡ Some rider.dart)
-  was = elim (cases_Option rider.stop) [
-    | inl run ↦ elim (cases_Option (note_at noted r)) [
-      | inl none ↦ absurd (false≢true (rw (run, none) at may.untold))
-      | inr (d, is) ↦ (run, is ∙ ap Some (sym (eqb-true rider.dart d (rw (run, is) at may.untold))))
-    ]
-    | inr (s, stop) ↦ absurd (false≢true (rw stop at may.untold))
-  ]
+  was = search rules
 
   noted_low : r < length noted
   noted_low = omega (arith, may.rider, counted.long)
@@ -150,13 +124,11 @@ module _ {faces : Faces} {site : Site} {notes : Notes} {riders : Riders} {r : �
     where
       runs : (o : Option Stop) → more_if (runs_on (told (terrain_of faces) rider.dart rider o) (note_at noted r)) 0
           + cond (is_some (told (terrain_of faces) rider.dart rider o).stop) 1 0 ≡ 1
-      runs None = refl
-      runs (Some s) = refl
+      runs o = search rules
 
       ended : (o : Option Stop) → (o ≡ None → or_else (straight (terrain_of faces) rider.dart) rider.dart ≢ rider.dart)
           → is_untold (told (terrain_of faces) rider.dart rider o) (note_at noted r) ≡ false
-      ended None f = rw was.1 (ne_eqb (or_else (straight (terrain_of faces) rider.dart) rider.dart) rider.dart (f refl))
-      ended (Some s) f = refl
+      ended o f = search rules
 
 -- Whoever is told along the whole fan is told at the vertex.
 pub told_all_along : {faces : Faces} {site : Site} {v : ℕ} {notes : Notes} {old : Riders}
@@ -202,14 +174,11 @@ module _ {faces : Faces} {site : Site} {v : ℕ} {notes : Notes} {old : Riders} 
   at_v = ap (from_of faces) next_is ∙ (fan_of_is faces v).leaves i low
 
   not_yet : is_among (next_of d) (take i fan) ≡ false
-  not_yet = ap (λ x. is_among x (take i fan)) next_is ∙ once fan i (each_once fan (apart_filter
-      (λ e. eqb (from_of faces e) v) (all_darts faces) (range_apart 0 (darts faces)))) low
+  not_yet = search (rules, next_is, once, apart_filter, range_apart)
 
   -- Who rode another dart is told as before.
   others : (e : ℕ) → e ≢ d → is_among (next_of e) (take (i + 1) fan) ≡ is_among (next_of e) (take i fan)
-  others e ne = among_more fan i (next_of e) low ∙ (ap (λ b. is_among (next_of e) (take i fan) || b)
-      (ne_eqb (next_of e) (get_or fan i 0) (λ s. ne (sym (prev_of-next_of e) ∙ (ap prev_of s ∙ sym d_is))))
-      ∙ or-false (is_among (next_of e) (take i fan)))
+  others e ne = search (rules, among_more)
 
   -- The riders told so far, and one dart later.
   abbrev pub TellsMore : (q : ℕ) (rider : Moving) → Type 0
@@ -221,14 +190,11 @@ module _ {faces : Faces} {site : Site} {v : ℕ} {notes : Notes} {old : Riders} 
       [ inl is ↦ rw is refl | inr (e, is) ↦ rw (is, others e (λ s. not_d (is ∙ ap Some s))) refl ])
 
   pub none_here : is_on notes.taken.items d ≡ false → (q : ℕ) → TellsMore q (rider_at now q)
-  none_here off q = as_before q (λ is. false≢true (sym off ∙ (are.taken_is d ∙ noted_among ns q d is)))
+  none_here off q = search (rules, as_before, noted_among)
 
   module _ (on : is_on notes.taken.items d ≡ true) {r : ℕ} (r_is : r ≡ get_or notes.places.items d 0) where
     pub noted_here : (note_at notes.noted.items r ≡ Some d) × (r < length notes.noted.items)
-    noted_here =
-        let q = noted_where ns d (sym (are.taken_is d) ∙ on) in
-        let same : r ≡ q.0 = r_is ∙ are.slot q.0 d q.2 in
-        (rw same q.2, rw same q.1)
+    noted_here = search (rules, noted_where)
 
     as_first : rider_at now r ≡ rider_at old.list.items r
     as_first = before r ∙ rw (noted_here.0, not_yet) refl

@@ -1,5 +1,4 @@
-use Rattle.std.proofs.Common.{◌≡◌, map}
-use Rattle.def_remesh.specs.NewPoints.{lengths_in}
+use Rattle.{std.proofs.Common.◌≡◌, std.proofs.Common.map, def_remesh.specs.NewPoints.lengths_in}
 use Rattle.{std.specs.List.range_with_len, def_layout.specs.Layouts.layout_of, qm_blocks.specs.Spots.block_links}
 
 abbrev pub invariant-loop-block : Rattle.qm_blocks.proofs.linking.links.Given.invariant-loop-block

@@ -1,8 +1,7 @@
-use Rattle.std.proofs.Common.{◌≡◌, ◌<◌, ℕ, List, replicate, sym, ap, ◌∙◌, subst}
-use Rattle.std.proofs.lemmas.List.{with_items_is}
+use Rattle.std.proofs.Common.{rules, ◌≡◌, ◌<◌, ℕ, List, replicate, sym, ap, ◌∙◌, subst}
+use Rattle.{std.proofs.lemmas.List.with_items_is, mesh_laws.proofs.Chains.manifold_law}
 use Rattle.def_layout.specs.{Arcs.AreArcs, Layouts.Layout, declared.tmesh.TArc.TArc, Nodes.is_node}
 use Rattle.def_mesh.specs.{Darts.darts, Faces.Faces, HalfEdges.half_edges, Manifold.IsManifold}
-use Rattle.mesh_laws.proofs.Chains.{manifold_law}
 use Rattle.qm_metric.proofs.{CutTables.filled_is, Nets.runs_inside, lengths.cut_lengths.Goals.After-deref}
 use Rattle.{std.specs.List.All, def_cut.specs.FullCut.is_on, qm_metric.specs.Lengths.with_arcs}
 use Rattle.qm_metric.proofs.lengths.cut_lengths.Goals as goal
@@ -10,8 +9,7 @@ use Rattle.qm_metric.proofs.lengths.cut_lengths.Goals as goal
 -- The darts of the arcs are darts of the mesh.
 inside : (c : After-deref) → All (λ (arc : TArc). All (λ (d : ℕ). d < darts c.args.cut.now.soup.faces) arc.darts.items)
     c.layout-layout.result.now.arcs.items
-inside c = runs_inside c.args.cut.now.soup.faces c.layout-layout.result.now c.args.cut.now.layout
-    c.layout-layout.ensures.layout c.layout-layout.ensures.laid
+inside c = search (rules, runs_inside)
 
 pub put_arcs-requires-clause-inside : goal.put_arcs-requires-clause-inside
 put_arcs-requires-clause-inside c = rw c.deref.ensures.value (inside c)

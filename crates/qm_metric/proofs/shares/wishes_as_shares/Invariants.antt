@@ -1,5 +1,4 @@
-use Rattle.std.proofs.Common.{◌≡◌, ◌<◌, ◌^◌, take}
-use Rattle.std.specs.List.{All}
+use Rattle.std.{proofs.Common.◌≡◌, proofs.Common.◌<◌, proofs.Common.◌^◌, proofs.Common.take, specs.List.All}
 
 abbrev pub invariant-loop-wish : Rattle.qm_metric.proofs.shares.wishes_as_shares.Given.invariant-loop-wish
 invariant-loop-wish l =

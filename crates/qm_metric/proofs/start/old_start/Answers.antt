@@ -1,12 +1,10 @@
-use Rattle.std.proofs.Common.{◌<◌, ◌*◌, ◌^◌, List, length, map, sym, ◌∙◌, ap, subst}
-use Rattle.std.proofs.lemmas.Result.{IfOk-weaker}
-use Rattle.def_layout.specs.declared.tmesh.TArc.{TArc}
-use Rattle.{std.specs.List.All, qm_layoutnet.proofs.Whole.runs_short, qm_metric.proofs.Nets.times_same}
+use Rattle.std.proofs.Common.{rules, ◌*◌, length, map, ◌∙◌, ap}
+use Rattle.{std.proofs.lemmas.Result.IfOk-weaker, def_layout.specs.declared.tmesh.TArc.TArc}
+use Rattle.{qm_layoutnet.proofs.Whole.runs_short, qm_metric.proofs.Nets.times_same}
 use Rattle.qm_metric.proofs.start.old_start.Goals as goal
 
 pub times_long-requires : goal.times_long-requires
-times_long-requires c = subst (λ (runs : List TArc). All (λ (run : TArc). length run.darts.items < 2 ^ 32) runs)
-    (sym c.deref.ensures.value) (runs_short c.args.t.now c.requires.layout)
+times_long-requires c = search (rules, runs_short)
 
 pub returns : goal.returns
 returns c =

@@ -1,19 +1,12 @@
-use Rattle.std.proofs.Common.{◌≡◌, ℕ, ◌<◌, List, replicate, length, rules, get_or, ap, sym, ◌∙◌, arith}
+use Rattle.std.proofs.Common.{◌≡◌, ◌<◌, length, rules, get_or, ap, sym, ◌∙◌, arith}
 use Rattle.std.proofs.{lemmas.List.with_items_is, lemmas.Grind.get_or_default_zero}
-use Rattle.qm_sing.specs.declared.flooding.TheConstants.{NONE}
 use Rattle.qm_sing.proofs.Numberings.{numbering_none, numbering_closed, numbering_low, numbering_skip, numbering_more}
 use Rattle.qm_sing.proofs.Numberings.{numbers_are, count_is}
 use Rattle.qm_sing.proofs.flooding.components.Goals.{then-index+in_ok-flood, else-index}
 use Rattle.qm_sing.proofs.flooding.components.Goals as goal
 
 pub loop-f-init : goal.loop-f-init
-loop-f-init c =
-    let e : c.in_ok-numbers.numbers.items ≡ replicate (length c.faces-faces.result.now) NONE = search rules in
-    record {
-      numbering = numbering_none c.args.mesh.now c.in_ok-numbers.numbers.items
-          (e ∙ ap (λ (xs : List (List ℕ)). replicate (length xs) NONE) c.faces-faces.ensures.value);
-      empty = ap length c.new-waiting.ensures.items;
-    }
+loop-f-init c = search (rules, numbering_none)
 
 pub flood-requires-clause-closed : goal.flood-requires-clause-closed
 flood-requires-clause-closed c = rw c.deref_mut.ensures.value (numbering_closed c.loop-f.invariant.numbering)

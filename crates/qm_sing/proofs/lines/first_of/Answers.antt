@@ -1,6 +1,5 @@
-use Rattle.std.proofs.Common.{◌≡◌, ◌+◌, Some, suc, length, sym, subst, ap, ◌∙◌, arith}
-use Rattle.def_mesh.specs.Darts.{darts}
-use Rattle.qm_sing.specs.Walks.{Goes, StaysAway, leader, walked}
+use Rattle.std.proofs.Common.{◌≡◌, ◌+◌, Some, suc, length, sym, ap, ◌∙◌, arith}
+use Rattle.{def_mesh.specs.Darts.darts, qm_sing.specs.Walks.leader, qm_sing.specs.Walks.walked}
 use Rattle.qm_sing.proofs.Walking.{away_more, goes_more, leads, not_endless, walked_on}
 use Rattle.qm_sing.proofs.lines.first_of.Goals as goal
 
@@ -15,14 +14,13 @@ back-preserved c =
     record {
       at = sym (walked_on m _ c.requires _ _ is) ∙ ap (walked step c.args.d) plus;
       low = m.low _ _ i.low on;
-      goes = subst (Goes step c.args.d) plus (goes_more m _ c.requires _ _ i.goes is);
-      away = subst (StaysAway step c.args.d) plus (away_more m _ c.requires _ _ i.away is c.if-before-d.false);
+      goes = goes_more m _ c.requires _ _ i.goes is;
+      away = away_more m _ c.requires _ _ i.away is c.if-before-d.false;
     }
 
 pub unreachable-requires : goal.unreachable-requires
 unreachable-requires c =
-    let step = leader c.args.mesh.now in
     let all : c.back.counter ≡ darts c.args.mesh.now =
     omega (arith, c.back-test.false, c.back.auto.counter-end, ap length c.faces.ensures.value) in
-    not_endless (leads c.faces.ensures.mesh.manifold) _ c.requires
-    (subst (Goes step c.args.d) all c.back.invariant.goes) (subst (StaysAway step c.args.d) all c.back.invariant.away)
+    not_endless (leads c.faces.ensures.mesh.manifold) _ c.requires (rw all at c.back.invariant.goes)
+    (rw all at c.back.invariant.away)

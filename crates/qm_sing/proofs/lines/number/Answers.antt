@@ -1,6 +1,5 @@
-use Rattle.std.proofs.Common.{◌≡◌, ◌+◌, Some, suc, length, sym, subst, ap, ◌∙◌, arith}
-use Rattle.std.proofs.lemmas.Bool.{false≢true}
-use Rattle.qm_sing.specs.Walks.{Goes, StaysAway, walked}
+use Rattle.std.proofs.Common.{◌≡◌, ◌+◌, Some, suc, length, sym, ap, ◌∙◌, arith}
+use Rattle.{std.proofs.lemmas.Bool.false≢true, qm_sing.specs.Walks.walked}
 use Rattle.qm_sing.proofs.Walking.{away_more, follows, goes_more, not_endless, told_here, walked_on}
 use Rattle.{def_mesh.specs.Darts.darts, def_runs.specs.Runs.follower}
 use Rattle.qm_sing.proofs.lines.number.Goals as goal
@@ -43,18 +42,15 @@ loop-place-preserved c =
     record {
       at = sym (walked_on (follows m) _ first _ _ is) ∙ ap (walked step c.args.first) plus;
       low = (follows m).low _ _ i.low on;
-      goes = subst (Goes step c.args.first) plus (goes_more (follows m) _ first _ _ i.goes is);
-      away = subst (StaysAway step c.args.first) plus
-          (away_more (follows m) _ first _ _ i.away is c.if-next-first.false);
+      goes = goes_more (follows m) _ first _ _ i.goes is;
+      away = away_more (follows m) _ first _ _ i.away is c.if-next-first.false;
       told = rw (← plus) (told_here m first i.at (c.loop-place.auto.run ∙ c.requires.run)
           (c.loop-place.auto.at ∙ c.requires.at) i.goes i.away i.told);
     }
 
 pub unreachable-requires : goal.unreachable-requires
 unreachable-requires c =
-    let step = follower c.args.mesh.now in
+    let i = c.loop-place.invariant in
     let all : c.loop-place.place ≡ darts c.args.mesh.now =
     omega (arith, c.loop-place-test.false, c.loop-place.auto.place-end, ap length c.faces.ensures.value) in
-    not_endless (follows c.faces.ensures.mesh.manifold) _ c.requires.first
-    (subst (Goes step c.args.first) all c.loop-place.invariant.goes)
-    (subst (StaysAway step c.args.first) all c.loop-place.invariant.away)
+    not_endless (follows c.faces.ensures.mesh.manifold) _ c.requires.first (rw all at i.goes) (rw all at i.away)

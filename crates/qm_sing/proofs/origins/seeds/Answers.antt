@@ -1,7 +1,6 @@
 use Rattle.std.proofs.Common.{◌≡◌, get_or, false, ◌++◌, ◌∷◌, [], ap, ◌∙◌, sym}
-use Rattle.qm_sing.specs.Rings.{is_seed}
-use Rattle.qm_sing.proofs.{Floods.filter_on, Floods.filter_off, Seeds.mark_test}
-use Rattle.qm_sing.proofs.{origins.seeds.Goals.then-marks-v+in_ok-push, origins.seeds.Goals.else-marks-v}
+use Rattle.qm_sing.{specs.Rings.is_seed, proofs.Floods.filter_on, proofs.Floods.filter_off, proofs.Seeds.mark_test}
+use Rattle.qm_sing.{proofs.origins.seeds.Goals.then-marks-v+in_ok-push, proofs.origins.seeds.Goals.else-marks-v}
 
 pub loop-v-preserved : Rattle.qm_sing.proofs.origins.seeds.Goals.loop-v-preserved
 loop-v-preserved c =

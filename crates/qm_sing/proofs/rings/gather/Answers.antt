@@ -1,4 +1,4 @@
-use Rattle.std.proofs.Common.{◌≡◌, ◌<◌, length, ap, arith}
+use Rattle.std.proofs.Common.{rules, ◌≡◌, ◌<◌, length, ap, arith}
 use Rattle.def_mesh.specs.{Darts.darts, declared.Kind.TheVariants.Regular}
 use Rattle.qm_sing.proofs.{Numberings.kind_read, Seeds.gathered, Seeds.number_read, Longest.kinds_long}
 use Rattle.qm_sing.proofs.{Longest.number_there, Longest.numbers_long}
@@ -8,18 +8,13 @@ pub bounds-classed-d : goal.bounds-classed-d
 bounds-classed-d c = omega (arith, numbers_long _ c.args.classed.now.numbers, ap length c.faces.ensures.value)
 
 pub bounds-classed-v : goal.bounds-classed-v
-bounds-classed-v c = let s = c.args.classed.now in
-    omega (arith, c.from-v.ensures.vertex, kinds_long s.mesh.now s.classes)
+bounds-classed-v c = search (rules, kinds_long)
 
 pub take_corner-requires-clause-regular : goal.take_corner-requires-clause-regular
-take_corner-requires-clause-regular c = let s = c.args.classed.now in
-    let ld : c.loop-d.d < darts s.mesh.now = omega (arith, c.loop-d-test.true, ap length c.faces.ensures.value) in
-    omega (arith, number_there s.mesh.now c.faces.ensures.mesh.manifold s.numbers ld, c.loop-d.invariant.regular_long)
+take_corner-requires-clause-regular c = search (rules, number_there)
 
 pub take_corner-requires-clause-least : goal.take_corner-requires-clause-least
-take_corner-requires-clause-least c = let s = c.args.classed.now in
-    let ld : c.loop-d.d < darts s.mesh.now = omega (arith, c.loop-d-test.true, ap length c.faces.ensures.value) in
-    omega (arith, number_there s.mesh.now c.faces.ensures.mesh.manifold s.numbers ld, c.loop-d.invariant.least_long)
+take_corner-requires-clause-least c = search (rules, number_there)
 
 pub loop-d-preserved : goal.loop-d-preserved
 loop-d-preserved c = let s = c.args.classed.now in

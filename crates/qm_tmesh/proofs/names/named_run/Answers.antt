@@ -1,8 +1,8 @@
+use Rattle.{std.proofs.Common.rules, qm_tmesh.proofs.names.named_run.Goals.then-not-cut-s-via-then-not-cut-s}
+use Rattle.{qm_tmesh.proofs.names.named_run.Goals.then-not-cut-s-via-else-not-cut-s+then-not-nodes-from}
 use Rattle.std.proofs.{Common.◌≡◌, Common.length, Common.ap, Common.sym, Common.◌∙◌, lemmas.Bool.false≢true}
-use Rattle.qm_tmesh.proofs.names.named_run.Goals.{then-not-cut-s-via-then-not-cut-s}
-use Rattle.qm_tmesh.proofs.names.named_run.Goals.{then-not-cut-s-via-else-not-cut-s+then-not-nodes-from}
 use Rattle.qm_tmesh.proofs.Walks.{node_from, run_named, run_unnamed}
-use Rattle.{def_mesh.specs.Darts.darts, def_cut.specs.FullCut.is_on, def_cut.specs.Grids.least_of}
+use Rattle.{def_cut.specs.FullCut.is_on, def_cut.specs.Grids.least_of}
 use Rattle.qm_tmesh.proofs.names.named_run.Goals as goal
 
 pub returns-then-not-cut-s : goal.returns-then-not-cut-s
@@ -14,12 +14,7 @@ returns-then-not-cut-s c = λ n named. elim c.then-not-cut-s.branch [
 ]
 
 pub invariant_of-start : goal.invariant_of-start
-invariant_of-start c = record {
-  low = c.requires.dart;
-  on = c.if-not-cut-s.false;
-  begins = sym (node_from c.requires.marked c.args.s c.requires.dart)
-      ∙ (ap (is_on c.args.nodes.now) (sym c.from.ensures.value) ∙ c.if-not-nodes-from.false);
-}
+invariant_of-start c = search (rules, node_from)
 
 pub returns-then-is_least : goal.returns-then-is_least
 returns-then-is_least c =

@@ -1,19 +1,10 @@
+use Rattle.{std.proofs.Common.rules, std.proofs.Common.◌<◌, std.proofs.Common.arith, def_mesh.specs.Darts.darts}
 use Rattle.qm_tmesh.proofs.{Walks.name_low, Walks.starts_skip, Walks.starts_more, names.starts.Goals.in-Some}
 use Rattle.qm_tmesh.proofs.{names.starts.Goals.in_default}
-use Rattle.{std.proofs.Common.◌<◌, std.proofs.Common.arith, def_mesh.specs.Darts.darts}
 use Rattle.qm_tmesh.proofs.names.starts.Goals as goal
 
 pub index_mut-requires : goal.index_mut-requires
-index_mut-requires c =
-    let found = rw c.in-Some.is at c.in_ok-name.ensures in
-    omega (
-      arith,
-      name_low c.requires c.loop-s.s found.0 found.1,
-      found.2,
-      c.loop-s.invariant.long,
-      c.requires.long,
-      c.loop-s.starts.ok.0,
-    )
+index_mut-requires c = search (rules, name_low)
 
 pub loop-s-preserved : goal.loop-s-preserved
 loop-s-preserved c =

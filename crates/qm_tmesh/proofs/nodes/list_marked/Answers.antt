@@ -1,6 +1,6 @@
-use Rattle.std.proofs.Common.{◌≡◌, ◌+◌, length, [], ◌∷◌, ◌++◌, ap, ◌∙◌, length-append, arith}
-use Rattle.def_cut.specs.FullCut.{is_on}
-use Rattle.qm_tmesh.proofs.{Walks.list_on, Walks.list_off, nodes.list_marked.Goals.then-on+in_ok-push-2}
+use Rattle.std.proofs.Common.{◌≡◌, ◌+◌, length, [], ◌∷◌, ◌++◌, ap, ◌∙◌, length-append, arith, sym}
+use Rattle.{std.proofs.lemmas.List.append-nil, def_cut.specs.FullCut.is_on}
+use Rattle.qm_tmesh.proofs.{Walks.list_more, nodes.list_marked.Goals.then-on+in_ok-push-2}
 use Rattle.qm_tmesh.proofs.{nodes.list_marked.Goals.else-on}
 
 pub loop-v-preserved : Rattle.qm_tmesh.proofs.nodes.list_marked.Goals.loop-v-preserved
@@ -11,12 +11,12 @@ loop-v-preserved c =
     (omega (arith, c.len.ensures, c.loop-v.list.ok.0)) in
     let long : length c.push.new.self.items ≡ c.loop-v.v + 1 =
     ap length put ∙ (length-append c.loop-v.places.items (length c.loop-v.list.items ∷ []) ∙ omega (arith, i.long)) in
+    let next = list_more (is_on c.args.marks.now) c.loop-v.v c.loop-v.list.items c.loop-v.places.items
+    c.push.new.self.items i.listed i.long i.stands put in
     elim c.if-on.branch [
       | then-on+in_ok-push-2 w ↦
-          let is : w.push-then-on.new.self.items ≡ c.loop-v.list.items ++ c.loop-v.v ∷ [] =
-          w.in_ok-push-2.ensures.items in
-          let both = list_on (is_on c.args.marks.now) c.loop-v.v c.loop-v.list.items c.loop-v.places.items
-          c.push.new.self.items i.listed i.long i.stands put w.push-then-on.new.self.items is w.if-on.true in
+          let is = w.in_ok-push-2.ensures.items in
+          let both = next w.push-then-on.new.self.items (rw w.if-on.true is) in
           rw w.list-is (record {
             listed = both.0;
             few = omega (arith, ap length is, length-append c.loop-v.list.items (c.loop-v.v ∷ []), i.few);
@@ -24,7 +24,6 @@ loop-v-preserved c =
             stands = both.1;
           })
       | else-on w ↦
-          let both = list_off (is_on c.args.marks.now) c.loop-v.v c.loop-v.list.items c.loop-v.places.items
-          c.push.new.self.items i.listed i.long i.stands put w.if-on.false in
+          let both = next c.loop-v.list.items (rw w.if-on.false (sym (append-nil c.loop-v.list.items))) in
           rw w.list-is (record { listed = both.0; few = omega (arith, i.few); long = long; stands = both.1 })
     ]

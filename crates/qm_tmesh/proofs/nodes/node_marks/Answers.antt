@@ -1,4 +1,4 @@
-use Rattle.std.proofs.Common.{◌≡◌, length, [], ◌∷◌, ◌++◌, ap, sym, ◌∙◌, arith, map}
+use Rattle.std.proofs.Common.{rules, [], ◌∷◌, ◌++◌, ap, sym, ◌∙◌, arith, map}
 use Rattle.std.proofs.lemmas.List.FromFn.{map-range_with_len_more, length-map-range_with_len}
 use Rattle.{std.specs.List.range_with_len, def_layout.specs.Nodes.is_node}
 use Rattle.qm_tmesh.proofs.nodes.node_marks.Goals as goal
@@ -10,7 +10,4 @@ loop-v-preserved c = c.in_ok-push.ensures.items ∙ (ap (λ xs. xs ++ c.is_node.
     c.loop-v.v (omega arith))))
 
 pub returns-clause-small : goal.returns-clause-small
-returns-clause-small c =
-    let e : length c.loop-v.marks.items ≡ c.loop-v.v = ap length c.loop-v.invariant
-    ∙ length-map-range_with_len (is_node c.args.mesh.now c.args.cut.now) 0 c.loop-v.v in
-    omega (arith, c.loop-v.auto.v-end, c.vertices-v-end.type_inv)
+returns-clause-small c = search (rules, length-map-range_with_len)

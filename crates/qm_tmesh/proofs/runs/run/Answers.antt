@@ -1,23 +1,9 @@
-use Rattle.std.proofs.Common.{rules, ◌≡◌, ◌+◌, true, false, is_some, length, ap, sym, ◌∙◌, refl, arith}
-use Rattle.std.proofs.lemmas.Option.{same_Some}
-use Rattle.def_cut.specs.{Steps.step_east, FullCut.is_on}
+use Rattle.std.proofs.Common.{◌≡◌, ◌+◌, true, false, is_some, length, ap, sym, ◌∙◌, arith}
+use Rattle.{std.proofs.lemmas.Option.same_Some, def_cut.specs.Steps.step_east, def_cut.specs.FullCut.is_on}
 use Rattle.def_layout.specs.{Arcs.end_vertex, Nodes.is_node}
 use Rattle.qm_tmesh.proofs.Walks.{walk_straight, walk_inner, walk_run, walk_listed, walk_at, walk_end}
 use Rattle.{def_mesh.specs.HalfEdges.half_edges, layout_laws.specs.Named.run_list, layout_laws.proofs.Uses.run_long}
 use Rattle.qm_tmesh.proofs.runs.run.Goals as goal
-
-pub steps-init : goal.steps-init
-steps-init c = record {
-  walk = record {
-    low = c.args.start.now.low;
-    on = c.args.start.now.on;
-    begins = c.args.start.now.begins;
-    at = refl;
-    inner = λ k less. absurd (omega (arith, less));
-  };
-  low = c.args.start.now.low;
-  listed = search rules;
-}
 
 pub returns-then-nodes-to-clause-run : goal.returns-then-nodes-to-clause-run
 returns-then-nodes-to-clause-run c =

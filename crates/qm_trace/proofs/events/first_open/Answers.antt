@@ -1,4 +1,4 @@
-use Rattle.std.proofs.Common.{◌≡◌, ◌<◌, ◌+◌, ℕ, true, get_or, take, Some, is_some, sym, subst, ap, ◌∙◌, inl, inr}
+use Rattle.std.proofs.Common.{rules, ◌≡◌, ◌<◌, ◌+◌, ℕ, true, get_or, take, Some, is_some, sym, subst, ap, ◌∙◌}
 use Rattle.std.proofs.{lemmas.Bool.eq-eqb, lemmas.Bool.eqb-true, lemmas.Bool.or_cases, lemmas.List.take_all}
 use Rattle.std.proofs.{lemmas.Option.same_Some}
 use Rattle.def_cut.specs.{Events.darts_in, Events.leads_to, Events.note_at, FullCut.is_on, Motion.end_of}
@@ -36,15 +36,8 @@ returns-then-not-settled-vertex-clause-end c =
 up_to : (c : goal.Else-not-settled-vertex) (r d : ℕ) → is_among r (take (c.queue.r-index + 1) c.args.queue.now) ≡ true
     → note_at c.args.noted.now r ≡ Some d → is_on c.args.settled.now (to_of c.args.mesh.now d) ≡ true
 up_to c r d among note =
-    elim (or_cases _ _ (sym (among_more c.args.queue.now c.queue.r-index r c.queue-test.true) ∙ among)) [
-      | inl before ↦ c.queue.invariant.none r d before note
-      | inr now ↦ (
-          let same : r ≡ get_or c.args.queue.now c.queue.r-index 0 = eqb-true _ _ now in
-          let one : d ≡ c.unwrap-d.result =
-          same_Some _ _ (sym note ∙ (ap (note_at c.args.noted.now) same ∙ c.unwrap-d.ensures)) in
-          ap (λ e. is_on c.args.settled.now (to_of c.args.mesh.now e)) one
-          ∙ (ap (is_on c.args.settled.now) (sym c.to-vertex.ensures.value) ∙ c.if-not-settled-vertex.false))
-    ]
+    let more = among_more c.args.queue.now c.queue.r-index r c.queue-test.true in
+    search (rules, or_cases, more, eqb-true, c.queue.invariant.none r)
 
 pub queue-preserved : goal.queue-preserved
 queue-preserved c = record { none = up_to c }

@@ -1,7 +1,7 @@
-use Rattle.std.proofs.Common.{◌≡◌, ◌<◌, false, ℕ, Some, None, length, sym, ap, ◌∙◌, refl, replicate, arith}
+use Rattle.std.proofs.Common.{rules, ◌≡◌, ℕ, Some, None, sym, ap, ◌∙◌, arith}
 use Rattle.std.proofs.{lemmas.Bool.false_from_ne_true, lemmas.Option.none-some}
 use Rattle.def_cut.specs.{Motion.is_among, Events.note_at}
-use Rattle.qm_trace.proofs.{Noting.all_same, Noting.are_none, Noting.cleared, notes.clear.Goals.After-clear_each}
+use Rattle.qm_trace.proofs.{Noting.all_same, Noting.are_none, notes.clear.Goals.After-clear_each}
 use Rattle.motion_laws.proofs.Marks.{noted_among, noted_where}
 use Rattle.qm_trace.proofs.notes.clear.Goals as goal
 
@@ -12,27 +12,17 @@ clear_each-requires-clause-notes c r a =
     (d.0, d.1, c.requires.low d.0 (noted_among c.args.notes.now.noted.items r d.0 d.1))
 
 pub clear_each-requires-clause-taken : goal.clear_each-requires-clause-taken
-clear_each-requires-clause-taken c d on =
-    let r : (r : ℕ) × (r < length c.args.notes.now.noted.items) × (note_at c.args.notes.now.noted.items r ≡ Some d) =
-    noted_where c.args.notes.now.noted.items d (sym (c.requires.notes.taken_is d) ∙ on) in
-    (r.0, r.2)
+clear_each-requires-clause-taken c d on = search (rules, noted_where)
 
 -- No note is left.
 none : (c : After-clear_each) (r : ℕ) → note_at c.clear_each.new.noted.items r ≡ None
-none c = cleared c.args.notes.now c.clear_each.new.noted.items c.requires.notes (λ q. c.clear_each.ensures.noted q
-    ∙ rw c.deref.ensures.value refl)
+none c = search rules
 
 pub returns-clause-noted : goal.returns-clause-noted
-returns-clause-noted c =
-    all_same None c.clear_each.new.noted.items (none (goal.at.returns-clause-noted c).After-clear_each)
-    ∙ ap (λ n. replicate n None) c.clear_each.ensures.long
+returns-clause-noted c = search (rules, all_same)
 
 pub returns-clause-settled : goal.returns-clause-settled
-returns-clause-settled c =
-    all_same false c.clear_each.new.settled.items (λ v. false_from_ne_true _ (λ on.
-    let r = c.clear_each.ensures.settled v on in
-    none-some r.1 (sym (none (goal.at.returns-clause-settled c).After-clear_each r.0) ∙ r.2)))
-    ∙ ap (λ n. replicate n false) c.clear_each.ensures.settled_long
+returns-clause-settled c = search (rules, all_same, none)
 
 pub returns-clause-notes : goal.returns-clause-notes
 returns-clause-notes c =

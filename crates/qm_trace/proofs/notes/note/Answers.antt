@@ -1,12 +1,10 @@
-use Rattle.std.proofs.Common.{◌<◌, ◌++◌, ◌∷◌, [], cond, Bool, ap, ◌∙◌, refl, arith}
+use Rattle.std.proofs.Common.{rules, ◌<◌, ◌++◌, ◌∷◌, [], cond, Bool, ap, ◌∙◌, refl}
 use Rattle.std.specs.Vec.{vec_capacity, vec_len}
 use Rattle.qm_trace.proofs.{Noting.has_room, Noting.one_note, notes.note.Goals.After-push}
 use Rattle.qm_trace.proofs.notes.note.Goals as goal
 
 few : (c : After-push) → vec_len c.args.notes.now.queue < vec_capacity c.args.notes.now.queue
-few c =
-    let room = has_room c.args.notes.now c.args.r c.requires.notes c.requires.rider c.requires.fresh in
-    omega (arith, room, c.args.notes.now.queue.ok.0)
+few c = search (rules, has_room)
 
 pub unwrap-requires : goal.unwrap-requires
 unwrap-requires c = c.push.ensures.succeeds (few (goal.at.unwrap-requires c).After-push)

@@ -1,11 +1,9 @@
-use Rattle.std.proofs.Common.{◌∙◌}
+use Rattle.std.proofs.Common.{rules, ◌∙◌}
 use Rattle.qm_trace.proofs.Counting.{are_darts, can_ride, instant, stepped}
 use Rattle.qm_trace.proofs.stepping.step.Goals as goal
 
 pub invariant_of-trail : goal.invariant_of-trail
-invariant_of-trail c = record {
-  low = are_darts c.faces-known.ensures.mesh.manifold c.requires.at.3 c.requires.queue c.requires.ridden;
-}
+invariant_of-trail c = search (rules, are_darts)
 
 pub ride_all-requires : goal.ride_all-requires
 ride_all-requires c =

@@ -1,4 +1,4 @@
-use Rattle.std.proofs.Common.{◌≡◌, ◌<◌, false, length, sym, ap, ◌∙◌, arith}
+use Rattle.std.proofs.Common.{rules, ◌≡◌, ◌<◌, false, length, sym, ap, ◌∙◌, arith}
 use Rattle.std.proofs.lemmas.List.{get_or_default, length-set, take_all}
 use Rattle.def_cut.specs.{FullCut.is_on, Events.rider_at}
 use Rattle.qm_trace.proofs.Tellings.{none_here, noted_here, one_here, told_all_along, Turn, may_tell}
@@ -12,13 +12,7 @@ prev-d-requires c = (is_fan c.args.mesh.now c.args.v c.fan-e-items.result.now c.
 
 turn : (c : After-index) → Turn c.args.mesh.now c.args.site c.args.v c.args.notes.now c.args.riders.now
     c.loop-e.riders.list.items c.loop-e.e-index c.prev-d.result
-turn c = record {
-  can = c.requires.can;
-  are = c.requires.notes;
-  low = omega (arith, ap length c.fan-e-items.ensures);
-  before = c.loop-e.invariant.told;
-  d_is = rw (← c.fan-e-items.ensures) c.prev-d.ensures.value;
-}
+turn c = search rules
 
 mark : (c : After-index) → c.index.result.now ≡ is_on c.args.notes.now.taken.items c.prev-d.result
 mark c = c.index.ensures

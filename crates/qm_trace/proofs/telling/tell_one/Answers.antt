@@ -1,6 +1,5 @@
-use Rattle.std.proofs.Common.{true, false, ◌≡◌, set, sym, ap, ◌∙◌, arith}
-use Rattle.std.proofs.lemmas.List.{get_or_default}
-use Rattle.def_cut.specs.{Motion.begun, Events.rider_at}
+use Rattle.std.proofs.Common.{rules, true, false, ◌≡◌, set, sym, ap, ◌∙◌, arith}
+use Rattle.{std.proofs.lemmas.List.get_or_default, def_cut.specs.Motion.begun, def_cut.specs.Events.rider_at}
 use Rattle.qm_trace.proofs.Tellings.{some_run, some_untold, told_counted}
 use Rattle.qm_trace.proofs.telling.tell_one.Goals.{then-is_some, else-is_some}
 use Rattle.qm_trace.proofs.telling.tell_one.Goals as goal
@@ -9,9 +8,7 @@ pub overflow_sub-riders : goal.overflow_sub-riders
 overflow_sub-riders c = omega (arith, some_run c.requires.counted c.requires.may)
 
 pub overflow_sub-riders-2 : goal.overflow_sub-riders-2
-overflow_sub-riders-2 c =
-    let some = some_untold c.requires.counted c.requires.may in
-    elim c.if-is_some.branch [ then-is_some w ↦ rw w.riders-is some | else-is_some w ↦ rw w.riders-is some ]
+overflow_sub-riders-2 c = search (rules, some_untold)
 
 pub returns-clause-counted : goal.returns-clause-counted
 returns-clause-counted c =

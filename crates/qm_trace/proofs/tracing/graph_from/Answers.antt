@@ -1,4 +1,4 @@
-use Rattle.std.proofs.Common.{length, sym, ap, ◌∙◌, arith}
+use Rattle.std.proofs.Common.{rules, length, ap, ◌∙◌, arith}
 use Rattle.feature_laws.proofs.Conforming.{marked_law}
 use Rattle.qm_trace.proofs.Ends.{cut_is, have_stopped, last_long, marked_few}
 use Rattle.{def_cut.specs.Motion.ridden, def_feature.specs.Marked.marked_last}
@@ -9,8 +9,7 @@ tell_riders-requires-clause-few c =
     omega (arith, ap length c.requires.starts, marked_few c.args.mesh.now c.args.marks.now)
 
 pub tell_riders-requires-clause-each : goal.tell_riders-requires-clause-each
-tell_riders-requires-clause-each c = ap length (c.deref.ensures.value ∙ c.in_ok-end.ensures.riders_are)
-    ∙ (last_long c.args.mesh.now c.args.marks.now ∙ sym (ap length c.requires.starts))
+tell_riders-requires-clause-each c = search (rules, last_long)
 
 pub tell_riders-requires-clause-stopped : goal.tell_riders-requires-clause-stopped
 tell_riders-requires-clause-stopped c =

@@ -1,21 +1,13 @@
-use Rattle.std.proofs.Common.{◌≡◌, length, sym, subst, ap, ◌∙◌, arith, ◌+◌, suc}
-use Rattle.std.proofs.lemmas.Bool.{eqb-true}
-use Rattle.qm_trace.specs.Tables.{IsQueue, state_at}
+use Rattle.std.proofs.Common.{rules, ◌≡◌, length, sym, ap, ◌∙◌, arith, ◌+◌, suc}
+use Rattle.{std.proofs.lemmas.Bool.eqb-true, qm_trace.specs.Tables.state_at}
 use Rattle.qm_trace.proofs.Ends.{all_over, end_at, first_on, next_on, next_queue, none_ride, queue_low, some_wait}
 use Rattle.qm_trace.proofs.Ends.{first_queue}
 use Rattle.qm_trace.proofs.tracing.last_tables.Goals.{else-instants-test, then-instants-test+then-is_empty}
-use Rattle.{std.specs.Vec.vec_len, def_mesh.specs.Vertices.vertex_count, def_feature.specs.Marked.marked_starts}
+use Rattle.{std.specs.Vec.vec_len, def_mesh.specs.Vertices.vertex_count}
 use Rattle.qm_trace.proofs.tracing.last_tables.Goals as goal
 
 pub instants-init : goal.instants-init
-instants-init c = record {
-  ground = c.in_ok-tables.ensures.ground;
-  at = c.in_ok-tables.ensures.at;
-  waits = subst (IsQueue c.in_ok-tables.tables.riders.items) (sym c.in_ok-queue.ensures)
-      (rw c.args.course.now.beside (first_queue (marked_starts c.args.course.now.mesh.now c.args.course.now.marks.now)
-      c.in_ok-tables.tables.riders.items c.in_ok-tables.ensures.at.riders_are));
-  way = first_on c.args.course.now.mesh.now c.args.course.now.marks.now;
-}
+instants-init c = search (rules, first_queue, first_on)
 
 pub invariant_of-next : goal.invariant_of-next
 invariant_of-next c = record {

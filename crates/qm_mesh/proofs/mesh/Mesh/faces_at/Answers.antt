@@ -1,7 +1,6 @@
-use Rattle.std.proofs.Common.{◌≡◌, ℕ, ◌<◌, List, length, get_or, ap, ◌∙◌, arith}
-use Rattle.std.proofs.lemmas.List.{length-map}
+use Rattle.std.proofs.Common.{rules, ◌≡◌, ℕ, ◌<◌, List, length, get_or, ap, arith}
+use Rattle.{std.proofs.lemmas.List.length-map, qm_mesh.proofs.Vertices.fan_found}
 use Rattle.def_mesh.specs.{Faces.Faces, Vertices.faces_at, Vertices.vertex_count}
-use Rattle.qm_mesh.proofs.Vertices.{fan_found}
 use Rattle.{smallvec.specs.SmallVec.SmallVec, qm_mesh.specs.Tables.IsMeshOf, mesh_laws.proofs.Flood.fan_short}
 use Rattle.qm_mesh.proofs.mesh.Mesh.faces_at.Goals as goal
 
@@ -17,6 +16,4 @@ overflow_cast-result c =
     omega (arith, count c.args.v _ k c.requires c.index.ensures, fan_short c.args.self.now c.args.v)
 
 pub returns : goal.returns
-returns c =
-    let k = rw c.self.view_is at c.self.invariant in
-    c.len.ensures.value ∙ count c.args.v _ k c.requires c.index.ensures
+returns c = search (rules, count)

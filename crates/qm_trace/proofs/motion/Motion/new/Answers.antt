@@ -2,14 +2,11 @@ use Rattle.std.proofs.Common.{rules, ◌≡◌, false, List, ℕ, length, replic
 use Rattle.std.proofs.lemmas.List.{length-map, length-replicate}
 use Rattle.def_mesh.specs.{Darts.darts, Vertices.vertex_count, Components.start_darts}
 use Rattle.qm_trace.proofs.Fewer.{first_counted, first_stood, first_waits}
-use Rattle.{def_cut.specs.Motion.begun, def_cut.specs.Motion.is_among, site_laws.proofs.Sites.started}
+use Rattle.{def_cut.specs.Motion.begun, site_laws.proofs.Sites.started}
 use Rattle.qm_trace.proofs.motion.Motion.new.Goals as goal
 
 pub invariant_of-trail : goal.invariant_of-trail
-invariant_of-trail c = record {
-  low = λ d n. (started c.args.mesh.now c.faces.ensures.mesh.manifold).low d
-      (sym (ap (is_among d) (c.deref-2.ensures.value ∙ c.requires.starts)) ∙ n);
-}
+invariant_of-trail c = search (rules, started)
 
 pub invariant_of-result : goal.invariant_of-result
 invariant_of-result c =

@@ -1,15 +1,13 @@
-use Rattle.std.proofs.Common.{◌≡◌, ℕ, true, length, refl, sym, ap, ◌∙◌, arith}
+use Rattle.std.proofs.Common.{rules, ◌≡◌, ℕ, true, length, refl, sym, ap, ◌∙◌}
 use Rattle.std.proofs.lemmas.Option.{none-some}
 use Rattle.def_cut.specs.{Events.darts_in, FullCut.is_on, Motion.is_among}
-use Rattle.qm_trace.proofs.Fewer.{reached_now, over_where, settle_may, settle_not_over, riders_long}
+use Rattle.qm_trace.proofs.Fewer.{reached_now, over_where, settle_may, settle_not_over}
 use Rattle.qm_trace.proofs.{Reaching.reached_by, Ends.starts_few, Noting.noted_low_at}
 use Rattle.{def_mesh.specs.Darts.to_of, motion_laws.proofs.Marks.noted_among, motion_laws.proofs.Marks.noted_where}
 use Rattle.qm_trace.proofs.motion.Motion.possible.Goals as goal
 
 pub first_waiting-requires-clause-few : goal.first_waiting-requires-clause-few
-first_waiting-requires-clause-few c =
-    let now = reached_now c.faces-known.ensures.mesh.manifold c.self.view_is c.requires in
-    omega (arith, ap length c.deref.ensures.value, riders_long now, starts_few c.args.mesh.now now.mesh)
+first_waiting-requires-clause-few c = search (rules, starts_few)
 
 pub first_open-requires : goal.first_open-requires
 first_open-requires c =
@@ -40,9 +38,7 @@ returns-clause-settles c v is =
     let now = reached_now c.faces-known.ensures.mesh.manifold c.self.view_is c.requires in
     let none = rw (c.deref.ensures.value, c.deref-2.ensures.value) at c.in_default.ensures.none in
     let same : v ≡ c.in_ok-vertex.vertex = cc in
-    rw (← c.self.view_is, same) (settle_may now c.in_ok-vertex.vertex none
-    (rw c.deref-4.ensures.value at c.in_ok-vertex.ensures.end)
-    (rw c.deref-5.ensures.value at c.in_ok-vertex.ensures.unsettled))
+    rw (← c.self.view_is, same) (search (rules, settle_may now))
 
 pub returns-clause-over : goal.returns-clause-over
 returns-clause-over c =

@@ -1,25 +1,16 @@
-use Rattle.std.proofs.Common.{length, sym, subst, ap, ◌∙◌, refl, arith}
+use Rattle.std.proofs.Common.{rules, length, sym, subst, ap, ◌∙◌, refl, arith}
 use Rattle.std.proofs.lemmas.List.{length-set, with_items_is}
-use Rattle.def_cut.specs.{Events.Event.Ride, declared.moving.Moving.Moving, Views.IsMotionOn, Views.MotionView}
-use Rattle.qm_trace.specs.Motions.{is_untold}
+use Rattle.def_cut.specs.{Events.Event.Ride, Views.IsMotionOn}
 use Rattle.qm_trace.proofs.Fewer.{made, ride_state, rode_counted, rode_waits, rides, as_read, event_on}
 use Rattle.qm_trace.proofs.Reaching.{ride_alone, ride_dart, ride_few, ride_fresh, ride_noted}
 use Rattle.qm_trace.proofs.{Ends.starts_few, Counting.tally_few}
 use Rattle.qm_trace.proofs.motion.Motion.ride.Goals as goal
 
 pub overflow_add-rider : goal.overflow_add-rider
-overflow_add-rider c =
-    let k = rides c.vertices-vertices.ensures.mesh.manifold c.self.view_is c.requires.motion c.args.r
-    c.requires.rider c.requires.possible in
-    let same = as_read k c.index-rider.ensures in
-    let v = c.vertices-vertices in
-    omega (arith, ap (λ (q : Moving). q.rides) same, ride_few k, v.ensures.value, v.type_inv)
+overflow_add-rider c = search (rules, rides, as_read, ride_few)
 
 pub overflow_add-self : goal.overflow_add-self
-overflow_add-self c =
-    let few = tally_few is_untold c.self.inside.riders.list.items c.self.inside.notes.noted.items in
-    let starts = starts_few c.args.mesh.now c.vertices-vertices.ensures.mesh.manifold in
-    omega (arith, ap (λ (q : MotionView). length q.starts) c.self.view_is, ap length c.requires.motion.started)
+overflow_add-self c = search (rules, tally_few, starts_few)
 
 pub overflow_sub-self : goal.overflow_sub-self
 overflow_sub-self c =
@@ -29,27 +20,14 @@ overflow_sub-self c =
     omega (arith, c.self.invariant.waits_is, rode_waits k same refl)
 
 pub cover_edge-requires : goal.cover_edge-requires
-cover_edge-requires c =
-    let k = rides c.vertices-vertices.ensures.mesh.manifold c.self.view_is c.requires.motion c.args.r
-    c.requires.rider c.requires.possible in
-    let same = as_read k c.index-rider.ensures in
-    record {
-      dart = omega (arith, ap (λ (q : Moving). q.dart) same, ride_dart k);
-      long = ap length c.deref_mut.ensures.value ∙ k.now.shown.covered_long;
-    }
+cover_edge-requires c = search (rules, rides, as_read, ride_dart)
 
 pub note-requires : goal.note-requires
 note-requires c =
     let k = rides c.vertices-vertices.ensures.mesh.manifold c.self.view_is c.requires.motion c.args.r
     c.requires.rider c.requires.possible in
     let same = as_read k c.index-rider.ensures in
-    record {
-      notes = c.self.invariant.notes_are;
-      rider = ride_noted k;
-      dart = omega (arith, ap (λ (q : Moving). q.dart) same, ride_dart k);
-      fresh = ride_fresh k;
-      alone = rw same (ride_alone k);
-    }
+    search (rules, ride_noted k, ride_dart k, ride_fresh k, ride_alone k)
 
 pub invariant_of-self : goal.invariant_of-self
 invariant_of-self c =

@@ -1,4 +1,4 @@
-use Rattle.std.proofs.Common.{true, false, sym, subst, ap, ◌∙◌, refl, arith}
+use Rattle.std.proofs.Common.{rules, true, false, sym, subst, ap, ◌∙◌, refl, arith}
 use Rattle.std.proofs.{lemmas.Bool.eq-eqb, lemmas.Bool.ne_eqb, lemmas.List.length-set}
 use Rattle.def_cut.specs.{Events.Event.Settle, Views.IsMotionOn}
 use Rattle.qm_trace.proofs.Fewer.{settling, settles, event_on, counted_again, made, waits_again}
@@ -10,34 +10,15 @@ tell_all-requires c =
     let k = settles c.faces-known.ensures.mesh.manifold c.self.view_is c.requires.motion c.args.v c.requires.possible in
     let at = settling k refl c.self.invariant.notes_are c.self.invariant.taken_long c.index.ensures
     c.site_at-site.ensures in
-    record {
-      vertex = settle_low k;
-      notes = c.self.invariant.notes_are;
-      can = can_tell at c.self.inside.riders refl;
-      counted = c.self.invariant.counted;
-    }
+    search (rules, settle_low, can_tell at c.self.inside.riders)
 
 pub clear-requires : goal.clear-requires
 clear-requires c =
     let k = settles c.faces-known.ensures.mesh.manifold c.self.view_is c.requires.motion c.args.v c.requires.possible in
-    record {
-      notes = c.self.invariant.notes_are;
-      long = c.self.invariant.taken_long ∙ k.now.shown.covered_long;
-      low = noted_low_at k.now;
-      settled_long = length-set c.self.inside.settled.items c.args.v true ∙ k.now.shown.settled_long;
-      settled = ends_now k;
-    }
+    search (rules, noted_low_at k.now, length-set, ends_now k)
 
 pub invariant_of-self : goal.invariant_of-self
-invariant_of-self c = record {
-  notes_are = c.clear.ensures.notes;
-  taken_long = c.clear.ensures.long ∙ c.self.invariant.taken_long;
-  counted = counted_again c.tell_all.ensures.counted c.clear.ensures.noted c.if-self-eq0.true;
-  waits_is = waits_again c.tell_all.ensures.counted c.clear.ensures.noted;
-  starts_long = omega (arith, c.self.invariant, c.tell_all.ensures.counted.long);
-  untold_yet = c.self.invariant.untold_yet;
-  has_room = c.self.invariant.has_room;
-}
+invariant_of-self c = search (rules, counted_again, waits_again)
 
 pub invariant_of-self-else-self-eq0 : goal.invariant_of-self-else-self-eq0
 invariant_of-self-else-self-eq0 c =
