@@ -1,9 +1,8 @@
 -- Soundness: the list of an accepted certificate is least.
-use Rattle.std.proofs.Common.{◌≡◌, ℕ, zero, suc, ◌-◌, ◌/◌, ◌<◌, ◌≤◌, min, true, false, List, [], ◌∷◌, length, ℤ, pos}
-use Rattle.std.proofs.Common.{◌-ℤ◌, ◌≤ℤ◌, unsigned_abs, sym, ◌∙◌, ap, inl, inr, arith, ◌+◌, ◌*◌, mul_comm, ◌%◌, Bool}
-use Rattle.std.proofs.Common.{◌==◌, take, drop, Option, ◌+ℤ◌, refl, add-mul, one-mul, zero-mul, zero-add, add-zero}
-use Rattle.std.proofs.{lemmas.Bool.cases_lt, Math.Nat.mul-div_cancel_left}
-use Rattle.sum_laws.proofs.Sums.{integers, count_below_same}
+use Rattle.std.proofs.Common.{rules, ◌≡◌, ℕ, zero, suc, ◌-◌, ◌/◌, ◌<◌, ◌≤◌, true, false, List, [], ◌∷◌, length, ℤ, pos}
+use Rattle.std.proofs.Common.{◌-ℤ◌, ◌≤ℤ◌, unsigned_abs, sym, ◌∙◌, ap, inl, inr, arith, ◌+◌, ◌*◌, ◌%◌, Bool, ◌==◌, take}
+use Rattle.std.proofs.Common.{drop, Option, ◌+ℤ◌, refl, add-mul, one-mul, zero-mul, zero-add, add-zero}
+use Rattle.{std.proofs.lemmas.Bool.cases_lt, sum_laws.proofs.Sums.integers, sum_laws.proofs.Sums.count_below_same}
 use Rattle.def_flow.specs.Admissible.{IsAdmissible, IsLeast, arc_deviation, deviation, entries}
 use Rattle.def_flow.specs.Units.{arcwise, down, low, cap, units_from, units, states_at, active, rim_active, cost_on}
 use Rattle.def_flow.specs.{Network.Network, Network.IsWithinBounds, Network.arc_at, Network.EndsBelow}
@@ -13,12 +12,11 @@ use Rattle.def_flow.specs.{declared.net.End.End, declared.units.ArcUnit.ArcUnit}
 use Rattle.network_laws.proofs.Part.{same_sides, lift_law, arc_convex}
 use Rattle.gadget_laws.specs.{Box.IsRaised, Box.matching_told, Box.ups, Marks.trues, Told.marks_from, Told.states_told}
 use Rattle.gadget_laws.specs.{Told.steps_told, Told.lengths_on, Told.lengths_told}
-use Rattle.gadget_laws.proofs.Box.{own_box, arcwise_length, box_length, down_fits, weighted_ends, units_length}
-use Rattle.gadget_laws.proofs.Box.{box_active, box_sides, told_active, cost_split, first_length, side_list}
-use Rattle.gadget_laws.proofs.Box.{balanced_list, deviations, deviation_list, graph_law, box_deviation, matching_law}
-use Rattle.gadget_laws.proofs.Box.{units_at}
-use Rattle.gadget_laws.proofs.{Units.ends_active, Units.UnitsAt, Perfect.told_length, Perfect.told_fills}
-use Rattle.gadget_laws.proofs.{Perfect.told_cost}
+use Rattle.gadget_laws.proofs.{Box.own_box, Box.arcwise_length, Box.box_length, Box.down_fits, Box.weighted_ends}
+use Rattle.gadget_laws.proofs.{Box.units_length, Box.box_active, Box.box_sides, Box.told_active, Box.cost_split}
+use Rattle.gadget_laws.proofs.{Box.first_length, Box.side_list, Box.balanced_list, Box.deviations, Box.deviation_list}
+use Rattle.gadget_laws.proofs.{Box.graph_law, Box.box_deviation, Box.matching_law, Box.units_at, Units.ends_active}
+use Rattle.gadget_laws.proofs.{Units.UnitsAt, Perfect.told_length, Perfect.told_fills, Perfect.told_cost}
 use Rattle.def_matching.specs.Matching.{IsPerfect, matching_cost}
 use Rattle.{std.specs.Prelude.slice_index, qm_dual.proofs.Weak.weak_duality}
 
@@ -47,17 +45,9 @@ IsNear floors f xs = (k : ℕ) → k < length xs → (pos (floors k) ≤ℤ f k)
 -- A near list is in the box.
 near_box : (arcs : List Arc) (f : ℕ → ℤ) (xs : List ℕ) → length xs ≡ length arcs
     → IsNear (λ k. (arc_at arcs k).floor) f xs → IsRaised 1 arcs xs (units_on arcs f xs) (listed f xs)
-near_box [] f [] l near = tt
 near_box (a ∷ arcs) f (x ∷ xs) l near =
-    let first : (pos a.floor ≤ℤ f 0) × (pos a.floor ≤ℤ pos x) × (unsigned_abs (f 0 -ℤ pos x) ≤ 2) =
-    near 0 (omega arith) in
-    let whole : (x - a.floor) / 1 ≡ x - a.floor = omega arith in
-    let steps : down 1 a x ≡ min 2 (x - a.floor) = ap (min 2) whole in (
-      omega (integers, first, steps),
-      omega (integers, first, steps),
-      near_box arcs (λ k. f (suc k)) xs (omega arith) (λ k lk. near (suc k) (omega arith)),
-    )
-near_box _ f _ l near = absurd (omega arith)
+    search (rules, near_box arcs (λ k. f (suc k)) xs (omega arith) (λ k lk. near (suc k) (omega arith)))
+near_box _ f _ l near = search rules
 
 -- No list near that of an accepted certificate is better.
 near_not_better : (net : Network) (c : Certificate) → IsWithinBounds net → IsAccepted net c → (f : ℕ → ℤ)
@@ -105,15 +95,12 @@ sound net c bounds accepted = record {
 -- Lists in a box, and the steps that their entries are above the lows.
 
 step_up : (j step l y : ℕ) → 1 ≤ step → y ≡ l + j * step → (y - l) / step ≡ j
-step_up j step l y some is =
-    let there : y - l ≡ step * j = omega (arith, mul_comm j step) in
-    ap (λ n. n / step) there ∙ mul-div_cancel_left j some
+step_up j step l y some is = search rules
 
 -- The list is in the box of the list that the lows and caps are of.
 pub in_box : (step : ℕ) (arcs : List Arc) (xs ys : List ℕ) → 1 ≤ step
     → length xs ≡ length arcs → IsInBox step (arcwise (low step) arcs xs) (arcwise (cap step) arcs xs) ys
     → IsRaised step arcs xs (ups step (arcwise (low step) arcs xs) ys) ys
-in_box step [] [] [] some l are = tt
 in_box step (a ∷ arcs) (x ∷ xs) (y ∷ ys) some l are =
     let e = are.each 0 (omega arith) in
     let up : (y - low step a x) / step ≡ e.up = step_up e.up step (low step a x) y some e.is in
@@ -127,25 +114,20 @@ in_box step (a ∷ arcs) (x ∷ xs) (y ∷ ys) some l are =
         each = λ k lk. are.each (suc k) (omega arith);
       }),
     )
-in_box step arcs xs ys some l are =
-    let count : length ys ≡ length (arcwise (low step) arcs xs) = are.count in absurd (omega (arith, l, count))
+in_box step arcs xs ys some l are = search rules
 
 -- The other way round.
 raised_each : (step : ℕ) (arcs : List Arc) (xs js ys : List ℕ) → IsRaised step arcs xs js ys → (k : ℕ) → k < length ys
     → IsStepUp (slice_index (arcwise (low step) arcs xs) k) (slice_index (arcwise (cap step) arcs xs) k) step
     (slice_index ys k)
-raised_each step [] [] [] [] raised k l = absurd (omega arith)
 raised_each step (a ∷ arcs) (x ∷ xs) (j ∷ js) (y ∷ ys) raised zero l = record { up = j; few = raised.0; is = raised.1 }
 raised_each step (a ∷ arcs) (x ∷ xs) (j ∷ js) (y ∷ ys) raised (suc k) l =
     raised_each step arcs xs js ys raised.2 k (omega arith)
-raised_each step _ _ _ _ raised k l = absurd raised
+raised_each step _ _ _ _ raised k l = search rules
 
 pub raised_in_box : (step : ℕ) (arcs : List Arc) (xs js ys : List ℕ) → length xs ≡ length arcs
     → IsRaised step arcs xs js ys → IsInBox step (arcwise (low step) arcs xs) (arcwise (cap step) arcs xs) ys
-raised_in_box step arcs xs js ys l raised = record {
-  count = box_length step arcs xs js ys raised ∙ sym (arcwise_length (low step) arcs xs l);
-  each = raised_each step arcs xs js ys raised;
-}
+raised_in_box step arcs xs js ys l raised = search (rules, box_length, arcwise_length, raised_each)
 
 -- Any states of the units tell a list of the box: the cost of the units that are on is at least its deviation.
 
@@ -196,10 +178,9 @@ trues_take _ _ = omega arith
 -- The list that states tell is in the box.
 pub told_box : (step : ℕ) (arcs : List Arc) (xs : List ℕ) (ons : List Bool) → length xs ≡ length arcs
     → IsRaised step arcs xs (steps_told step arcs xs ons) (lengths_on step arcs xs (steps_told step arcs xs ons))
-told_box step [] [] ons l = tt
 told_box step (a ∷ arcs) (x ∷ xs) ons l =
     (trues_take (cap step a x) ons, refl, told_box step arcs xs (drop (cap step a x) ons) (omega arith))
-told_box step _ _ ons l = absurd (omega arith)
+told_box step _ _ ons l = search rules
 
 told_dear : (net : Network) (step : ℕ) (arcs : List Arc) (xs : List ℕ) (ons : List Bool) → length ons ≡ length
     (units net step arcs xs) → pos (deviations net arcs (lengths_on step arcs xs (steps_told step arcs xs ons)))
@@ -233,13 +214,12 @@ active_past nodes v _ _ le at = refl
 -- Each list of the box is as high as the floors.
 box_high : (step : ℕ) (arcs : List Arc) (xs js ys : List ℕ) → IsRaised step arcs xs js ys → ((k : ℕ) → k < length arcs
     → pos (arc_at arcs k).floor ≤ℤ entries xs k) → (k : ℕ) → k < length arcs → pos (arc_at arcs k).floor ≤ℤ entries ys k
-box_high step [] [] [] [] box high k l = absurd (omega arith)
 box_high step (a ∷ arcs) (x ∷ xs) (j ∷ js) (y ∷ ys) box high zero l =
     let first : pos a.floor ≤ℤ pos x = high 0 (omega arith) in
     omega (integers, box.1, first, down_fits step a x)
 box_high step (a ∷ arcs) (x ∷ xs) (j ∷ js) (y ∷ ys) box high (suc k) l =
     box_high step arcs xs js ys box.2 (λ i li. high (suc i) (omega arith)) k (omega arith)
-box_high step _ _ _ _ box high k l = absurd box
+box_high step _ _ _ _ box high k l = search rules
 
 -- The lengths law.
 pub lengths_law : (net : Network) (step : ℕ) (xs m : List ℕ) → IsWithinBounds net → 1 ≤ step
@@ -264,8 +244,7 @@ lengths_law net step xs m bounds positive l ax perfect =
     let ons_count : length ons ≡ length us = told_length copies_at us ms in
     let fills : (v : ℕ) → active v us ons ≡ copies_at v = λ v. elim (cases_lt v net.nodes) [
       | inl before ↦ told_fills net.nodes copies_at lone us at m perfect v before
-      | inr past ↦ active_past net.nodes v us ons past at
-          ∙ sym (active_past net.nodes v us (states_at net step xs) past at)
+      | inr past ↦ search (rules, active_past)
     ] in
     let side : (v : ℕ) → weighted_ends v true net.arcs ys ≡ weighted_ends v false net.arcs ys = λ v.
     (let equal : weighted_ends v true net.arcs js + weighted_ends v false net.arcs ds
@@ -283,8 +262,7 @@ lengths_law net step xs m bounds positive l ax perfect =
       count,
       record {
         high = box_high step net.arcs xs js ys box ax.high;
-        balanced = λ v.
-            omega (integers, side_list v true net.arcs ys count, side_list v false net.arcs ys count, side v);
+        balanced = search (rules, side_list);
       },
       omega (
         integers,

@@ -1,8 +1,7 @@
 -- Lists in the box, as states of the units: the active ends at a node, and the cost.
-use Rattle.std.proofs.Common.{◌≡◌, ℕ, zero, suc, ◌+◌, ◌-◌, ◌*◌, ◌/◌, ◌≤◌, Bool, true, false, cond, ◌&&◌, ◌==◌, List, []}
-use Rattle.std.proofs.Common.{◌∷◌, ◌++◌, length, take, drop, pos, ◌+ℤ◌, refl, sym, ◌∙◌, ap, add-mul, mul-add, mul_comm}
-use Rattle.std.proofs.Common.{mul_assoc, div-mul-le_self, mul-le-mul_right, zero-mul, zero-add, add-zero, length-append}
-use Rattle.std.proofs.Common.{arith, ◌%◌, nat_lt, IsTrue, Option, Some, None, option_to_list, ◌-ℤ◌, ltb-true, ◌<◌, ℤ}
+use Rattle.std.proofs.Common.{rules, ◌≡◌, ℕ, zero, suc, ◌+◌, ◌-◌, ◌*◌, ◌/◌, ◌≤◌, Bool, true, false, cond, ◌&&◌, ◌==◌}
+use Rattle.std.proofs.Common.{List, [], ◌∷◌, ◌++◌, length, take, drop, pos, ◌+ℤ◌, refl, sym, ◌∙◌, ap, add-mul, mul-add}
+use Rattle.std.proofs.Common.{mul_comm, zero-mul, zero-add, add-zero, length-append, arith, ◌%◌, IsTrue, ◌-ℤ◌, ◌<◌, ℤ}
 use Rattle.std.proofs.Common.{◌*ℤ◌}
 use Rattle.std.proofs.{lemmas.List.length-drop, Math.Nat.mul-div_cancel_left, Math.Nat.mul-le-mul_left}
 use Rattle.std.proofs.{Math.Nat.mul-le-mul, lemmas.Bool.and_parts, lemmas.Bool.cases_eq, lemmas.Bool.Decides.nat_tests}
@@ -23,23 +22,18 @@ use Rattle.{def_math.specs.Counts.count, def_math.specs.Counts.count_below, qm_d
 
 -- The steps down from an entry lead no lower than its floor.
 pub down_fits : (step : ℕ) (a : Arc) (x : ℕ) → down step a x * step ≤ x - a.floor
-down_fits step a x =
-    let h : down step a x * step ≤ ((x - a.floor) / step) * step = mul-le-mul_right step (omega arith) in
-    omega (arith, h, div-mul-le_self (x - a.floor) step)
+down_fits step a x = search rules
 
 -- A list is its lows and as many steps as it can give up.
 pub own_box : (step : ℕ) (arcs : List Arc) (xs : List ℕ) → length xs ≡ length arcs
     → IsRaised step arcs xs (arcwise (down step) arcs xs) xs
-own_box step [] [] l = tt
-own_box step (a ∷ arcs) (x ∷ xs) l =
-    (omega arith, omega (arith, down_fits step a x), own_box step arcs xs (omega arith))
-own_box step _ _ l = absurd (omega arith)
+own_box step (a ∷ arcs) (x ∷ xs) l = search (rules, down_fits, own_box step arcs xs (omega arith))
+own_box step _ _ l = search rules
 
 pub arcwise_length : (f : Arc → ℕ → ℕ) (arcs : List Arc) (xs : List ℕ) → length xs ≡ length arcs
     → length (arcwise f arcs xs) ≡ length arcs
-arcwise_length f [] [] l = refl
 arcwise_length f (a ∷ arcs) (x ∷ xs) l = omega (arith, arcwise_length f arcs xs (omega arith))
-arcwise_length f _ _ l = absurd (omega arith)
+arcwise_length f _ _ l = omega arith
 
 -- How many ends of an arc are active at a node where its unit is on, or off.
 abbrev pub arc_active : ℕ → Bool → Arc → ℕ
@@ -57,29 +51,24 @@ run_length (suc j) (suc n) = omega (arith, run_length j n)
 -- There are as many states as units.
 pub states_count : (net : Network) (step : ℕ) (arcs : List Arc) (xs js ys : List ℕ) → IsRaised step arcs xs js ys
     → length (units net step arcs xs) ≡ length (states step arcs xs js)
-states_count net step [] [] [] [] box = refl
 states_count net step (a ∷ arcs) (x ∷ xs) (j ∷ js) (y ∷ ys) box = simp (length-append, units_length, run_length)
     (ap (λ n. cap step a x + n) (states_count net step arcs xs js ys box.2))
-states_count net step _ _ _ _ box = absurd box
+states_count net step _ _ _ _ box = search rules
 
 -- The states of an arc's units: how many of them are on, and those of the other arcs.
 run_told : (j n : ℕ) (os : List Bool) → j ≤ n → (trues (take n (run j n ++ os)) ≡ j) × (drop n (run j n ++ os) ≡ os)
-run_told zero zero os le = (refl, refl)
-run_told (suc j) zero os le = absurd (omega arith)
-run_told zero (suc n) os le =
-    let again = run_told zero n os (omega arith) in (omega (arith, again.0), again.1)
-run_told (suc j) (suc n) os le =
-    let again = run_told j n os (omega arith) in (omega (arith, again.0), again.1)
+run_told _ zero os le = search rules
+run_told zero (suc n) os le = search (rules, run_told zero n os (omega arith))
+run_told (suc j) (suc n) os le = search (rules, run_told j n os (omega arith))
 
 -- The active ends of an arc with any states of its units.
 any_active : (net : Network) (step v : ℕ) (a : Arc) (x k n : ℕ) (os : List Bool) → n ≤ length os
     → active v (units_from net step a (low step a x) k n) os + trues (take n os) * arc_active v false a
     ≡ trues (take n os) * arc_active v true a + n * arc_active v false a
-any_active net step v a x k zero os l = omega arith
 any_active net step v a x k (suc n) (true ∷ os) l =
     omega (arith, add-mul, any_active net step v a x (k + 1) n os (omega arith))
 any_active net step v a x k (suc n) (false ∷ os) l = omega (arith, any_active net step v a x (k + 1) n os (omega arith))
-any_active net step v a x k _ _ l = absurd (omega arith)
+any_active net step v a x k _ _ l = omega arith
 
 -- Units in a row take their states in a row.
 active_split : (v : ℕ) (us vs : List ArcUnit) (ons : List Bool) {n : ℕ} → length us ≡ n → n ≤ length ons
@@ -128,50 +117,34 @@ told_active net step v _ _ ons m = refl
 -- The states of a list of the box tell its steps.
 told_states : (step : ℕ) (arcs : List Arc) (xs js ys : List ℕ) → IsRaised step arcs xs js ys
     → steps_told step arcs xs (states step arcs xs js) ≡ js
-told_states step [] [] [] [] box = refl
 told_states step (a ∷ arcs) (x ∷ xs) (j ∷ js) (y ∷ ys) box =
-    let parts = run_told j (cap step a x) (states step arcs xs js) box.0 in
-    rw (parts.0, parts.1, told_states step arcs xs js ys box.2) refl
-told_states step _ _ _ _ box = absurd box
+    search (rules, run_told, told_states step arcs xs js ys box.2)
+told_states step _ _ _ _ box = search rules
 
 pub box_active : (net : Network) (step v : ℕ) (arcs : List Arc) (xs js ys : List ℕ) → IsRaised step arcs xs js ys
     → active v (units net step arcs xs) (states step arcs xs js) + weighted_ends v false
     arcs js ≡ weighted_ends v true arcs js + weighted_ends v false arcs (arcwise (cap step) arcs xs)
-box_active net step v arcs xs js ys box = rw (told_states step arcs xs js ys box) at
-    (told_active net step v arcs xs (states step arcs xs js) (sym (states_count net step arcs xs js ys box)))
+box_active net step v arcs xs js ys box = search (rules, told_states, told_active, states_count)
 
 -- A list of the box has the ends of its lows, and a step's worth for each unit.
 scaled : (l j s a : ℕ) → (l + j * s) * a ≡ l * a + s * (j * a)
-scaled l j s a =
-    let turned : j * s * a ≡ s * (j * a) = ap (λ n. n * a) (mul_comm j s) ∙ mul_assoc s j a in
-    omega (arith, add-mul l (j * s) a, turned)
+scaled l j s a = search rules
 
 pub box_ends : (net : Network) (step v : ℕ) (on : Bool) (arcs : List Arc) (xs js ys : List ℕ)
     → IsRaised step arcs xs js ys → weighted_ends v on arcs ys ≡ weighted_ends v on arcs (arcwise (low step) arcs xs)
     + step * weighted_ends v on arcs js
-box_ends net step v on [] [] [] [] box = omega (arith, mul_comm step 0, zero-mul step)
 box_ends net step v on (a ∷ arcs) (x ∷ xs) (j ∷ js) (y ∷ ys) box =
-    let here = ap (λ n. n * arc_active v on a) box.1 ∙ scaled (low step a x) j step (arc_active v on a) in
-    omega (
-      arith,
-      here,
-      mul-add step (j * arc_active v on a) (weighted_ends v on arcs js),
-      box_ends net step v on arcs xs js ys box.2,
-    )
-box_ends net step v on _ _ _ _ box = absurd box
+    search (rules, scaled, box_ends net step v on arcs xs js ys box.2)
+box_ends net step v on _ _ _ _ box = search (rules, mul_comm step 0, zero-mul step)
 
 -- The sum on one side of a node, along the list.
 ends_side : (v y : ℕ) (on : Bool) (es : List End) → total (λ e. cond (is_on_side v on e) (pos y) (pos 0)) es
     ≡ pos (y * count (λ e. cond ((e.node == v) && is_active on e) 1 0) es)
 ends_side v y on [] = omega integers
-ends_side v y on (e ∷ es) =
-    let here : cond (is_on_side v on e) (pos y) (pos 0) ≡ pos (y * cond ((e.node == v) && is_active on e) 1 0) =
-    grind integers in
-    omega (integers, here, ends_side v y on es, mul-add)
+ends_side v y on (e ∷ es) = search (rules, ends_side v y on es)
 
 pub side_list : (v : ℕ) (on : Bool) (arcs : List Arc) (ys : List ℕ) → length ys ≡ length arcs
     → side_sum arcs (entries ys) on v ≡ pos (weighted_ends v on arcs ys)
-side_list v on [] [] l = refl
 side_list v on (a ∷ arcs) (y ∷ ys) l = omega (
   integers,
   total_below_prefix (λ k. total (λ e. cond (is_on_side v on e) (entries (y ∷ ys) k) (pos 0))
@@ -179,7 +152,7 @@ side_list v on (a ∷ arcs) (y ∷ ys) l = omega (
   ends_side v y on (ends a),
   side_list v on arcs ys (omega arith),
 )
-side_list v on _ _ l = absurd (omega arith)
+side_list v on _ _ l = omega integers
 
 -- Balanced lists have equal ends of both signs.
 pub balanced_list : (arcs : List Arc) (ys : List ℕ) → length ys ≡ length arcs → IsBalanced arcs (entries ys) → (v : ℕ)
@@ -189,9 +162,8 @@ balanced_list arcs ys l balanced v =
 
 pub box_length : (step : ℕ) (arcs : List Arc) (xs js ys : List ℕ) → IsRaised step arcs xs js ys
     → length ys ≡ length arcs
-box_length step [] [] [] [] box = refl
 box_length step (a ∷ arcs) (x ∷ xs) (j ∷ js) (y ∷ ys) box = omega (arith, box_length step arcs xs js ys box.2)
-box_length step _ _ _ _ box = absurd box
+box_length step _ _ _ _ box = search rules
 
 -- Two lists of one box differ at a node by a step's worth for each unit.
 pub box_sides : (net : Network) (step v : ℕ) (arcs : List Arc) (xs js ys is zs : List ℕ) → IsRaised step arcs xs js ys
@@ -232,13 +204,8 @@ deviations net _ _ = 0
 
 pub deviation_list : (net : Network) (arcs : List Arc) (ys : List ℕ) → length ys ≡ length arcs
     → count_below (λ k. arc_deviation net (arc_at arcs k) (entries ys k)) (length arcs) ≡ deviations net arcs ys
-deviation_list net [] [] l = refl
-deviation_list net (a ∷ arcs) (y ∷ ys) l = omega (
-  arith,
-  count_below_prefix (λ k. arc_deviation net (arc_at (a ∷ arcs) k) (entries (y ∷ ys) k)) (length arcs),
-  deviation_list net arcs ys (omega arith),
-)
-deviation_list net _ _ l = absurd (omega arith)
+deviation_list net (a ∷ arcs) (y ∷ ys) l = search (rules, count_below_prefix, deviation_list net arcs ys (omega arith))
+deviation_list net _ _ l = omega arith
 
 -- The units of an arc that are on cost the change of its deviation.
 run_cost : (net : Network) (step : ℕ) (a : Arc) (x k j n : ℕ) (os : List Bool) → j ≤ n → cost_on (units_from net step a
@@ -255,7 +222,6 @@ run_cost net step a x k (suc j) (suc n) os le =
 pub box_cost : (net : Network) (step : ℕ) (arcs : List Arc) (xs js ys : List ℕ) → IsRaised step arcs xs js ys
     → cost_on (units net step arcs xs) (states step arcs xs js) +ℤ pos
     (deviations net arcs (arcwise (low step) arcs xs)) ≡ pos (deviations net arcs ys)
-box_cost net step [] [] [] [] box = refl
 box_cost net step (a ∷ arcs) (x ∷ xs) (j ∷ js) (y ∷ ys) box =
     let n = cap step a x in
     let os = run j n ++ states step arcs xs js in
@@ -271,7 +237,7 @@ box_cost net step (a ∷ arcs) (x ∷ xs) (j ∷ js) (y ∷ ys) box =
       ap (λ k. arc_deviation net a (pos k)) end,
       box_cost net step arcs xs js ys box.2,
     )
-box_cost net step _ _ _ _ box = absurd box
+box_cost net step _ _ _ _ box = search rules
 
 -- The graph law, the matching law and the cost law: a list in the box tells a perfect matching, and no edge is dear.
 
@@ -279,22 +245,12 @@ box_cost net step _ _ _ _ box = absurd box
 abbrev pub IsFit : ℕ → Arc → Type 0
 IsFit nodes a = EndsBelow nodes a.left a.right × (a.weight ≤ 1000) × (1 ≤ a.floor)
 
-ends_below : (nodes : ℕ) (left : End) (right : Option End)
-    → list_all (λ e. nat_lt e.node nodes) (left ∷ option_to_list right) ≡ true → EndsBelow nodes left right
-ends_below nodes left None h = ltb-true left.node nodes (and_parts _ _ h).0
-ends_below nodes left (Some right) h =
-    (ltb-true left.node nodes (and_parts _ _ h).0, ltb-true right.node nodes (and_parts _ _ (and_parts _ _ h).1).0)
-
 pub arcs_fit : (nodes : ℕ) (arcs : List Arc) → IsTrue (list_all (is_bounded nodes) arcs)
     → AllByRecursion (IsFit nodes) arcs
 arcs_fit nodes [] h = tt
 arcs_fit nodes (a ∷ arcs) h =
     let both = and_parts (is_bounded nodes a) (list_all (is_bounded nodes) arcs) h in
-    let on : is_bounded nodes a ≡ true = both.0 in
-    let light : a.weight ≤ 1000 = grind (arith, nat_tests, on) in
-    let high : 1 ≤ a.floor = grind (arith, nat_tests, on) in
-    let ends = ends_below nodes a.left a.right (grind (arith, nat_tests, on)) in
-    ((ends, light, high), arcs_fit nodes arcs both.1)
+    search (rules, nat_tests, arcs_fit nodes arcs both.1)
 
 -- What holds of the units of each arc that fits holds of all units.
 pub units_each : (P : ArcUnit → Type 0) (net : Network) (step : ℕ) → ((a : Arc) (l k : ℕ) → IsFit net.nodes a

@@ -1,11 +1,11 @@
 -- The edges of the matching graph: what holds of its vertices and of the units' costs, holds of their ends and costs.
-use Rattle.std.proofs.Common.{◌≡◌, ◌≢◌, ℕ, zero, suc, ◌+◌, ◌<◌, ◌≤◌, Bool, true, false, cond, List, [], ◌∷◌, ◌++◌}
-use Rattle.std.proofs.Common.{length, Option, Some, None, ℤ, pos, refl, inl, inr, ap, arith}
-use Rattle.std.proofs.{lemmas.Bool.cases_eq, lemmas.Bool.cond_both, lemmas.List.Elements.All-from_recursion}
+use Rattle.std.proofs.Common.{rules, ◌≡◌, ◌≢◌, ℕ, zero, suc, ◌+◌, ◌<◌, ◌≤◌, Bool, true, false, cond, List, [], ◌∷◌}
+use Rattle.std.proofs.Common.{◌++◌, length, Option, Some, None, ℤ, pos, refl, inl, inr, ap, arith}
+use Rattle.std.proofs.{lemmas.Bool.cases_eq, lemmas.List.Elements.All-from_recursion}
 use Rattle.def_math.specs.Counts.{count, count_below}
 use Rattle.def_matching.specs.{Matching.IsGraph, declared.weighted.WEdge.WEdge}
-use Rattle.def_flow.specs.MatchingGraph.{fan, to_copies, inner_link, are_alike, links_by, size_by, unit_links}
-use Rattle.def_flow.specs.MatchingGraph.{unit_size, units_links, with_rim, rim, link_from, rung, rim_links, first_fresh}
+use Rattle.def_flow.specs.MatchingGraph.{fan, to_copies, inner_link, links_by, size_by, unit_links, unit_size}
+use Rattle.def_flow.specs.MatchingGraph.{units_links, with_rim, rim, link_from, rung, rim_links, first_fresh}
 use Rattle.def_flow.specs.MatchingGraph.{lone_vertex, graph_by}
 use Rattle.def_flow.specs.{Network.EndsBelow, declared.net.End.End, declared.units.ArcUnit.ArcUnit}
 use Rattle.gadget_laws.proofs.{Pick.picked, Pick.at_ends, Pick.pairs, Units.UnitsAt}
@@ -78,40 +78,23 @@ module _ (V : ℕ → Type 0) (Q : ℤ → Type 0) (free : Q (pos 0)) where
   fan_edges : (u : ℕ) (c : ℤ) (a n : ℕ) → V u → Q c → a + n ≤ u → ((k : ℕ) → k < a + n → V k)
       → AreEdges V Q (fan u c a n)
   fan_edges u c a zero at paid le below = tt
-  fan_edges u c a (suc n) at paid le below = (
-    (at, below a (omega arith), λ e. omega arith, paid),
-    fan_edges u c (a + 1) n at paid (omega arith) (λ k l. below k (omega arith)),
-  )
+  fan_edges u c a (suc n) at paid le below =
+      search (rules, fan_edges u c (a + 1) n at paid (omega arith) (λ k l. below k (omega arith)))
 
   inner_edge : (b : ℕ) (c : ℤ) (e : End) → V b → V (b + 1) → Q c → AreEdges V Q (inner_link b c e ∷ [])
-  inner_edge b c e one two paid =
-      ((one, two, λ q. omega arith, cond_both e.plus (pos 0) c Q (λ q. free) (λ q. paid)), tt)
+  inner_edge b c e one two paid = search rules
 
   -- The edges of units, whose own vertices are past the copies.
   module _ (nodes : ℕ) (copies_at : ℕ → ℕ) (copies : (k : ℕ) → k < count_below copies_at nodes → V k) where
     copies_edges : (b : ℕ) (c : ℤ) (e : End) → e.node < nodes → count_below copies_at nodes ≤ b → V b → Q c
         → AreEdges V Q (to_copies copies_at b c e)
-    copies_edges b c e l le at paid =
-        let end = copies_below copies_at e.node nodes l in
-        fan_edges b (cond e.plus c (pos 0)) (count_below copies_at e.node) (copies_at e.node) at
-        (cond_both e.plus c (pos 0) Q (λ q. paid) (λ q. free)) (omega arith) (λ k lk. copies k (omega arith))
+    copies_edges b c e l le at paid = search (rules, copies_below, fan_edges)
 
     pub unit_edges : (b : ℕ) (c : ℤ) (left : End) (right : Option End) → EndsBelow nodes left right
         → count_below copies_at nodes ≤ b → ((k : ℕ) → b ≤ k → k < b + size_by left right → V k) → Q c
         → AreEdges V Q (links_by copies_at b c left right)
-    unit_edges b c left None at le own paid =
-        let one = own b (omega arith) (omega arith) in
-        each_append (IsEdge V Q) (to_copies copies_at b c left) _ (copies_edges b c left at le one paid)
-        (inner_edge b c left one (own (b + 1) (omega arith) (omega arith)) paid)
-    unit_edges b c left (Some right) at le own paid =
-        let one = own b (omega arith) (omega (arith, size_low left (Some right))) in
-        let first = copies_edges b c left at.0 le one paid in
-        cond_both (are_alike left right) _ _ (AreEdges V Q)
-        (λ e. (let two : V (b + 1) = own (b + 1) (omega arith) (rw e (omega arith)) in
-        each_append (IsEdge V Q) (to_copies copies_at b c left) _ first
-        (each_append (IsEdge V Q) (to_copies copies_at (b + 1) (pos 0) right) _
-        (copies_edges (b + 1) (pos 0) right at.1 (omega arith) two free) (inner_edge b c left one two paid))))
-        (λ e. each_append (IsEdge V Q) (to_copies copies_at b c left) _ first (copies_edges b c right at.1 le one paid))
+    unit_edges b c left None at le own paid = search (rules, each_append, copies_edges)
+    unit_edges b c left (Some right) at le own paid = search (rules, copies_edges, each_append)
 
     pub units_edges : (b : ℕ) (us : List ArcUnit) → UnitsAt nodes us → count_below copies_at nodes ≤ b → ((k : ℕ) → b
         ≤ k → k < b + count unit_size us → V k) → All (λ u. Q u.cost) us → AreEdges V Q (units_links copies_at b us)
@@ -131,8 +114,7 @@ module _ (V : ℕ → Type 0) (Q : ℤ → Type 0) (free : Q (pos 0)) where
     rim_edges : (fresh : ℕ) (before : Option ℕ) (rs : List ℕ) → AllByRecursion (λ r. r < m) rs → AllByRecursion V rs
         → m ≤ fresh → IsPast m fresh before → fresh + pairs (length rs) ≤ n → AreEdges V Q (rim_links before fresh rs)
     rim_edges fresh before [] below at le past lt = tt
-    rim_edges fresh before (r ∷ []) below at le past lt =
-        from_edges fresh r before past (omega arith) at.0 (λ b l h e. omega (arith, below.0))
+    rim_edges fresh before (r ∷ []) below at le past lt = search rules
     rim_edges fresh before (r ∷ s ∷ rs) below at le past lt =
         let one : V fresh = high fresh le (omega arith) in
         let two : V (fresh + 1) = high (fresh + 1) (omega arith) (omega arith) in
@@ -171,8 +153,7 @@ module _ (V : ℕ → Type 0) (Q : ℤ → Type 0) (free : Q (pos 0)) where
 -- The edges at the rim are free.
 pub rest_free : (nodes : ℕ) (copies_at : ℕ → ℕ) (lone : Bool) (us : List ArcUnit) → AreFree (rim_links
     (lone_vertex nodes copies_at lone us) (first_fresh nodes copies_at lone us) (rim (count_below copies_at nodes) us))
-rest_free nodes copies_at lone us = rest_edges (λ v. Unit {0}) (λ c. c ≡ pos 0) refl nodes copies_at lone us
-    (rim_each (λ v. Unit {0}) (count_below copies_at nodes) us (λ k l h. tt)) (λ k l h. tt)
+rest_free nodes copies_at lone us = search (rules, rest_edges, rim_each)
 
 -- The graph of units at nodes is one.
 pub graph_lawful : (nodes : ℕ) (copies_at : ℕ → ℕ) (lone : Bool) (us : List ArcUnit) → UnitsAt nodes us

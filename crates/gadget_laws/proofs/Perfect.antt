@@ -1,7 +1,7 @@
 -- A perfect matching tells states of the units that fill the copies, at its own cost.
-use Rattle.std.proofs.Common.{◌≡◌, ◌≢◌, ℕ, zero, suc, ◌+◌, ◌*◌, ◌<◌, ◌≤◌, min, Bool, cond, not, ◌&&◌, ◌==◌, nat_lt}
-use Rattle.std.proofs.Common.{List, [], ◌∷◌, length, map, drop, Option, Some, None, option_to_list, ℤ, pos, ◌+ℤ◌, ◌-ℤ◌}
-use Rattle.std.proofs.Common.{◌*ℤ◌, refl, subst, sym, ◌∙◌, ap, inl, inr, ◌⊎◌, zero-add, eq-eqb, ne_eqb, lt-ltb, le-ltb}
+use Rattle.std.proofs.Common.{rules, ◌≡◌, ◌≢◌, ℕ, zero, suc, ◌+◌, ◌*◌, ◌<◌, ◌≤◌, min, Bool, cond, not, ◌&&◌, ◌==◌}
+use Rattle.std.proofs.Common.{nat_lt, List, [], ◌∷◌, length, map, drop, Option, Some, None, option_to_list, ℤ, pos}
+use Rattle.std.proofs.Common.{◌+ℤ◌, ◌-ℤ◌, ◌*ℤ◌, refl, subst, sym, ◌∙◌, ap, inl, inr, ◌⊎◌, zero-add, eq-eqb, ne_eqb}
 use Rattle.std.proofs.Common.{arith}
 use Rattle.std.proofs.lemmas.Bool.{cases_eq, cases_lt, cases_Bool, cond_both}
 use Rattle.def_math.specs.{Sums.total, Sums.total_below, Counts.count, Counts.count_below, Increasing.IsIncreasing}
@@ -41,10 +41,7 @@ AreTold copies_at (u ∷ us) ms =
 
 left_told : (copies_at : ℕ → ℕ) (ms : List Bool) (left : End) → left_marks copies_at ms left ≤ 1
     → left_marks copies_at ms left ≡ cond (is_active (state_told copies_at ms left) left) 1 0
-left_told copies_at ms left le =
-    let same : is_active (state_told copies_at ms left) left ≡ nat_lt 0 (left_marks copies_at ms left) =
-    grind (arith) in
-    rw same (grind (arith, cases_lt 0 (left_marks copies_at ms left)))
+left_told copies_at ms left le = search rules
 
 -- Of a number and a mark that are 1 together, the mark is the rest.
 mark_rest : (m a : Bool) (n : ℕ) → n ≡ cond a 1 0 → n + cond m 1 0 ≡ 1 → m ≡ not a
@@ -57,10 +54,7 @@ mates l r a c i t ep et ex e = let h = rw (ep, et, ex) at e in grind (integers, 
 
 -- The inner edge of a unit weighs 1 where one of its ends does and the other weighs nothing.
 inner_one : (b : ℕ) → (only b b +ℤ only b (b + 1) ≡ pos 1) × (only (b + 1) b +ℤ only (b + 1) (b + 1) ≡ pos 1)
-inner_one b = (
-  omega (integers, only_here b, only_there b (b + 1) (λ e. omega arith)),
-  omega (integers, only_here (b + 1), only_there (b + 1) b (λ e. omega arith)),
-)
+inner_one b = search rules
 
 module _ (n nodes : ℕ) (copies_at : ℕ → ℕ) (m : ℕ) (within : m ≤ n) where
   -- The marks of a unit whose edges weigh 1 together for a weight that is 1 at d alone.
@@ -85,10 +79,7 @@ module _ (n nodes : ℕ) (copies_at : ℕ → ℕ) (m : ℕ) (within : m ≤ n) 
   unit_told b c left None ms at le one two =
       let l = left_marks copies_at ms left in
       let i = inner_mark copies_at ms left None in
-      let mate = weigh b b c left None ms 1 0 at le (only_here b) refl (inner_one b).0 one in
-      let sum : l + cond i 1 0 ≡ 1 = omega (arith, mate) in
-      let first = left_told copies_at ms left (omega (arith, sum)) in
-      record { first = first; second = refl; inner = mark_rest i _ l first sum }
+      let mate = weigh b b c left None ms 1 0 at le (only_here b) refl (inner_one b).0 one in search rules
   unit_told b c left (Some right) ms at le one two =
       let l = left_marks copies_at ms left in
       let r = right_marks copies_at ms left (Some right) in
@@ -195,33 +186,11 @@ less_total a (suc n) = grind (integers, cases_lt n a, less_total a n)
 
 outside : (copies_at : ℕ → ℕ) (v k : ℕ)
     → (k < count_below copies_at v) ⊎ (count_below copies_at v + copies_at v ≤ k) → at_copies copies_at v k ≡ pos 0
-outside copies_at v k apart = elim apart [
-  | inl low ↦ rw (
-    lt-ltb k (count_below copies_at v + copies_at v) (omega arith),
-    lt-ltb k (count_below copies_at v) low,
-  ) refl
-  | inr high ↦ rw (
-    le-ltb k (count_below copies_at v + copies_at v) high,
-    le-ltb k (count_below copies_at v) (omega arith),
-  ) refl
-]
+outside copies_at v k apart = search rules
 
 copy_weight : (copies_at : ℕ → ℕ) (v u i : ℕ) → i < copies_at u → at_copies copies_at v (count_below copies_at u + i)
     ≡ pos (cond (u == v) 1 0)
-copy_weight copies_at v u i l = elim (cases_eq u v) [
-  | inl e ↦
-      let low : i < copies_at v = rw e at l in
-      rw (
-        e,
-        lt-ltb (count_below copies_at v + i) (count_below copies_at v + copies_at v) (omega arith),
-        le-ltb (count_below copies_at v + i) (count_below copies_at v) (omega arith),
-        eq-eqb v v refl,
-      ) refl
-  | inr ne ↦ rw (ne_eqb u v ne) (outside copies_at v (count_below copies_at u + i) (elim (cases_lt u v) [
-    | inl before ↦ inl (omega (arith, copies_below copies_at u v before))
-    | inr after ↦ inr (omega (arith, copies_below copies_at v u (omega arith)))
-  ]))
-]
+copy_weight copies_at v u i l = search (rules, copies_below)
 
 -- So many marks, each worth 1 or nothing.
 marked : (n : ℕ) (x : ℤ) (h a : Bool) → n ≡ cond a 1 0 → x ≡ pos (cond h 1 0) → pos n *ℤ x ≡ pos (cond (h && a) 1 0)
@@ -339,8 +308,7 @@ module _ (nodes : ℕ) (copies_at : ℕ → ℕ) (lone : Bool) (us : List ArcUni
       ≡ picked f ms (units_links copies_at copies us) +ℤ picked f rms rest
   matched f =
       let same = places_marks 0 (length g.edges) m (rw (zero-add (length g.edges)) perfect.increasing) in
-      ap (λ l. total f (map (edge_at g) l)) (sym same) ∙ chosen_sum g f ms (marks_length 0 (length g.edges) m)
-      ∙ pick_split f ms (units_links copies_at copies us) rest
+      search (rules, chosen_sum, marks_length, pick_split)
 
   -- For each weight of nothing at the rim and past the units, the ends at the units weigh what all vertices weigh.
   ends_weight : (w : ℕ → ℤ) → AllByRecursion (λ r. w r ≡ pos 0) (rim copies us) → ((k : ℕ) → copies + count unit_size us
@@ -377,9 +345,4 @@ module _ (nodes : ℕ) (copies_at : ℕ → ℕ) (lone : Bool) (us : List ArcUni
 
   -- Its cost is that of the units that are on.
   pub told_cost : matching_cost g m ≡ cost_on us (states_told copies_at us ms)
-  told_cost = omega (
-    integers,
-    matched (λ (e : WEdge). e.cost),
-    picked_free rms rest (rest_free nodes copies_at lone us),
-    units_cost_told nodes copies_at copies us ms at all_told,
-  )
+  told_cost = search (rules, matched, picked_free, rest_free, units_cost_told, all_told)

@@ -1,9 +1,9 @@
 -- Sums over what is marked: of two lists in a row, of edges to copies, and of the chain at the rim, where each vertex
 -- that waits gets a mate, and so do all fresh vertices.
-use Rattle.std.proofs.Common.{◌≡◌, ℕ, zero, suc, ◌+◌, ◌<◌, ◌≤◌, Bool, true, false, cond, List, [], ◌∷◌, ◌++◌, length}
-use Rattle.std.proofs.Common.{map, get_or, ℤ, pos, ◌+ℤ◌, refl, ◌∙◌, ap, add-zero, zero-add, arith, ◌-◌, ◌*◌, ◌%◌}
-use Rattle.std.proofs.Common.{Option, Some, None, true≢false, ◌&&◌, take, drop, ◌*ℤ◌, inl, inr, length-append}
-use Rattle.std.proofs.lemmas.Bool.{cases_Bool}
+use Rattle.std.proofs.Common.{rules, ◌≡◌, ℕ, zero, suc, ◌+◌, ◌<◌, ◌≤◌, Bool, true, false, cond, List, [], ◌∷◌, ◌++◌}
+use Rattle.std.proofs.Common.{length, map, get_or, ℤ, pos, ◌+ℤ◌, refl, ◌∙◌, ap, add-zero, zero-add, arith, ◌-◌, ◌*◌}
+use Rattle.std.proofs.Common.{◌%◌, Option, Some, None, true≢false, ◌&&◌, take, drop, ◌*ℤ◌, inl, inr, length-append}
+use Rattle.{std.proofs.lemmas.Bool.cases_Bool, sum_laws.proofs.Sums.integers, qm_dual.proofs.Gathered.plus_times}
 use Rattle.def_flow.specs.MatchingGraph.{link, fan, to_copies, rim_links, inner_link, are_alike, links_by, unit_links}
 use Rattle.def_flow.specs.MatchingGraph.{unit_size, units_links}
 use Rattle.def_flow.specs.{declared.net.End.End, Network.EndsBelow, declared.units.ArcUnit.ArcUnit}
@@ -11,7 +11,6 @@ use Rattle.gadget_laws.specs.{Marks.choice, Marks.places, Marks.end_marks, Marks
 use Rattle.gadget_laws.specs.{Told.width_by}
 use Rattle.def_math.specs.{Sums.total, Sums.span, Increasing.IsIncreasing, Counts.count_below}
 use Rattle.def_matching.specs.{Matching.WeightedGraph, Matching.edge_at, declared.weighted.WEdge.WEdge}
-use Rattle.{sum_laws.proofs.Sums.integers, qm_dual.proofs.Gathered.plus_times}
 
 -- The sum of f over what is marked.
 abbrev pub picked : {X : Type 0} → (X → ℤ) → List Bool → List X → ℤ
@@ -50,9 +49,7 @@ pick_some : (f : WEdge → ℤ) (i n u : ℕ) (c : ℤ) (a : ℕ) → i < n → 
     ≡ f (link u (a + i) c)
 pick_some f i zero u c a l = absurd (omega arith)
 pick_some f zero (suc n) u c a l = rw (add-zero a) (omega (integers, pick_none f zero n u c (a + 1)))
-pick_some f (suc i) (suc n) u c a l =
-    let past : a + suc i ≡ a + 1 + i = omega arith in
-    rw past (omega (integers, pick_some f i n u c (a + 1) (omega arith)))
+pick_some f (suc i) (suc n) u c a l = search (rules, pick_some f i n u c (a + 1) (omega arith))
 
 -- Of the edges to the copies of an end's node one is picked, or none.
 abbrev pub end_value : (f : WEdge → ℤ) (copies_at used : ℕ → ℕ) (some : Bool) (b : ℕ) (c : ℤ) (e : End) → ℤ
@@ -75,7 +72,6 @@ places_rise low k high (false ∷ ms) from le = places_rise low (k + 1) high ms 
 -- The sum along what stands at the places of the marks is what is picked.
 at_places : {X : Type 0} (h : ℕ → X) (d : X) (f : X → ℤ) (k : ℕ) (ms : List Bool) (xs : List X) → length ms ≡ length xs
     → ((j : ℕ) → h (k + j) ≡ get_or xs j d) → total f (map h (places k ms)) ≡ picked f ms xs
-at_places h d f k [] xs l same = refl
 at_places h d f k (true ∷ ms) (x ∷ xs) l same = omega (
   integers,
   ap f (rw add-zero at (same 0)),
@@ -84,7 +80,7 @@ at_places h d f k (true ∷ ms) (x ∷ xs) l same = omega (
 )
 at_places h d f k (false ∷ ms) (x ∷ xs) l same = at_places h d f (k + 1) ms xs (omega arith)
     (λ j. (let e : k + 1 + j ≡ k + suc j = omega arith in ap h e ∙ same (suc j))) ∙ omega integers
-at_places h d f k _ _ l same = absurd (omega arith)
+at_places h d f k _ _ l same = omega integers
 
 pub chosen_sum : (g : WeightedGraph) (f : WEdge → ℤ) (ms : List Bool) → length ms ≡ length g.edges
     → total f (map (edge_at g) (places 0 ms)) ≡ picked f ms g.edges
@@ -112,9 +108,7 @@ waiting w (Some b) waits = cond waits (w b) (pos 0)
 two_more : (w : ℕ → ℤ) (fresh n : ℕ) → span w fresh (pairs (suc (suc n)))
     ≡ w fresh +ℤ (w (fresh + 1) +ℤ span w (fresh + 2) (pairs (suc n)))
 two_more w fresh n =
-    let more : pairs (suc (suc n)) ≡ suc (suc (pairs (suc n))) = omega arith in
-    let past : fresh + 1 + 1 ≡ fresh + 2 = omega arith in
-    ap (span w fresh) more ∙ omega (integers, ap (λ a. span w a (pairs (suc n))) past)
+    let more : pairs (suc (suc n)) ≡ suc (suc (pairs (suc n))) = omega arith in search rules
 
 still_even : (a b : Bool) (n : ℕ) → (cond a 1 0 + (cond b 1 0 + n)) % 2 ≡ 0 → (cond (differ a b) 1 0 + n) % 2 ≡ 0
 still_even true true n even = omega arith
@@ -159,9 +153,7 @@ pub rim_length : (before : Option ℕ) (waits : Bool) (fresh : ℕ) (rs : List �
 rim_length before waits fresh [] [] l = refl
 rim_length None waits fresh (r ∷ []) (o ∷ []) l = refl
 rim_length (Some b) waits fresh (r ∷ []) (o ∷ []) l = refl
-rim_length None waits fresh (r ∷ s ∷ rs) (o ∷ p ∷ os) l =
-    omega (arith, rim_length (Some (fresh + 1)) (differ waits o) (fresh + 2) (s ∷ rs) (p ∷ os) (omega arith))
-rim_length (Some b) waits fresh (r ∷ s ∷ rs) (o ∷ p ∷ os) l =
+rim_length _ waits fresh (r ∷ s ∷ rs) (o ∷ p ∷ os) l =
     omega (arith, rim_length (Some (fresh + 1)) (differ waits o) (fresh + 2) (s ∷ rs) (p ∷ os) (omega arith))
 rim_length before waits fresh _ _ l = absurd (omega arith)
 
@@ -205,18 +197,13 @@ fan_pick f (m ∷ ms) u c a (suc n) s each =
 -- A unit has as many edges as its width says.
 pub links_width : (copies_at : ℕ → ℕ) (b : ℕ) (c : ℤ) (left : End) (right : Option End)
     → length (links_by copies_at b c left right) ≡ width_by copies_at left right
-links_width copies_at b c left None = simp (length-append, fan_length)
-links_width copies_at b c left (Some right) = elim (cases_Bool (are_alike left right)) [
-  | inl e ↦ rw e (simp (length-append, fan_length))
-  | inr e ↦ rw e (simp (length-append, fan_length))
-]
+links_width copies_at b = search (rules, length-append, fan_length)
 
 -- What is picked at units is what is picked at the first one, and past its edges at the others.
 pub pick_units : (f : WEdge → ℤ) (copies_at : ℕ → ℕ) (b : ℕ) (u : ArcUnit) (us : List ArcUnit) (ms : List Bool)
     → picked f ms (units_links copies_at b (u ∷ us)) ≡ picked f ms (unit_links copies_at b u) +ℤ picked f
     (drop (width_by copies_at u.left u.right) ms) (units_links copies_at (b + unit_size u) us)
-pick_units f copies_at b u us ms = rw (← links_width copies_at b u.cost u.left u.right)
-    (pick_split f ms (unit_links copies_at b u) (units_links copies_at (b + unit_size u) us))
+pick_units f copies_at b u us ms = search (rules, links_width, pick_split)
 
 -- How many edges of the first end, and of the second, are marked, and whether the inner one is.
 abbrev pub left_marks : (ℕ → ℕ) → List Bool → End → ℕ
@@ -243,12 +230,7 @@ module _ (f : WEdge → ℤ) (nodes : ℕ) (copies_at : ℕ → ℕ) (s : ℕ �
   end_pick : (b : ℕ) (c : ℤ) (e : End) (ms : List Bool) (es : List WEdge) → e.node < nodes
       → picked f ms (to_copies copies_at b c e ++ es)
       ≡ pos (trues (take (copies_at e.node) ms)) *ℤ s b c e +ℤ picked f (drop (copies_at e.node) ms) es
-  end_pick b c e ms es at = omega (
-    integers,
-    rw fan_length at (pick_split f ms (to_copies copies_at b c e) es),
-    fan_pick f ms b (cond e.plus c (pos 0)) (count_below copies_at e.node) (copies_at e.node) (s b c e)
-        (worth b c e at),
-  )
+  end_pick b c e ms es at = search (rules, fan_length, pick_split, fan_pick)
 
   -- What is picked at a unit.
   pub unit_pick : (b : ℕ) (c : ℤ) (left : End) (right : Option End) (ms : List Bool) → EndsBelow nodes left right

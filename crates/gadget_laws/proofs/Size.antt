@@ -1,22 +1,20 @@
 -- The matching graph has at most 9/16 of the tangle number of vertices, and at most 9/8 of it of edges.
-use Rattle.std.proofs.Common.{◌≡◌, ◌≢◌, ℕ, zero, suc, ◌+◌, ◌-◌, ◌*◌, ◌%◌, ◌<◌, ◌≤◌, Bool, true, false, cond, ◌&&◌, ◌==◌}
-use Rattle.std.proofs.Common.{List, [], ◌∷◌, length, Option, Some, None, option_to_list, pos, ◌≤ℤ◌, refl, sym, ◌∙◌, ap}
-use Rattle.std.proofs.Common.{inl, inr, add-mul, mul-add, mul_left_comm, mul-zero, zero-mul, mul-le-mul_left}
+use Rattle.std.proofs.Common.{rules, ◌≡◌, ◌≢◌, ℕ, zero, suc, ◌+◌, ◌-◌, ◌*◌, ◌%◌, ◌<◌, ◌≤◌, Bool, true, false, cond}
+use Rattle.std.proofs.Common.{◌&&◌, ◌==◌, List, [], ◌∷◌, length, Option, Some, None, option_to_list, pos, ◌≤ℤ◌, refl}
+use Rattle.std.proofs.Common.{sym, ◌∙◌, inl, inr, add-mul, mul_left_comm, mul-zero, zero-mul, mul-le-mul_left}
 use Rattle.std.proofs.Common.{mul-le-mul_right, length-append, eq-eqb, ne_eqb, arith}
 use Rattle.std.proofs.{lemmas.Bool.cases_eq, lemmas.List.Elements.All-from_recursion}
 use Rattle.sum_laws.proofs.Sums.{integers, count_append, count_below_sum, count_below_le, count_below_same}
 use Rattle.sum_laws.proofs.Sums.{count_below_one, count_below_none, count_below_times}
-use Rattle.sum_laws.proofs.Tests.{once_at_most}
-use Rattle.def_math.specs.Counts.{count, count_below}
+use Rattle.{sum_laws.proofs.Tests.once_at_most, def_math.specs.Counts.count, def_math.specs.Counts.count_below}
+use Rattle.{gadget_laws.proofs.Pick.links_width, std.specs.List.AllByRecursion, gadget_laws.specs.Told.width_by}
 use Rattle.def_flow.specs.Network.{EndsBelow, Network, IsWithinBounds, arc_at, ends, degree, tangle_number}
 use Rattle.def_flow.specs.Units.{arcwise, down, low, cap, units_from, units, states_at, is_active, active, rim_active}
-use Rattle.def_flow.specs.MatchingGraph.{link_from, rim_links, rim, size_by, unit_size, units_links, first_fresh}
-use Rattle.def_flow.specs.MatchingGraph.{lone_vertex, matching_graph}
+use Rattle.def_flow.specs.MatchingGraph.{rim_links, rim, size_by, unit_size, units_links, first_fresh, lone_vertex}
+use Rattle.def_flow.specs.MatchingGraph.{matching_graph}
 use Rattle.def_flow.specs.{Admissible.IsAdmissible, Admissible.entries, declared.net.Arc.Arc, declared.net.End.End}
 use Rattle.def_flow.specs.{declared.units.ArcUnit.ArcUnit}
 use Rattle.gadget_laws.proofs.Box.{own_box, arc_active, weighted_ends, box_active, balanced_list, IsFit, arcs_fit}
-use Rattle.gadget_laws.proofs.Pick.{links_width}
-use Rattle.{std.specs.List.AllByRecursion, gadget_laws.specs.Told.width_by}
 
 -- The ends at a node on one side.
 abbrev ends_on : ℕ → Bool → List Arc → ℕ
@@ -41,11 +39,7 @@ weighted_high v on (a ∷ arcs) (x ∷ xs) l high =
     let first : pos 1 ≤ℤ pos x = high 0 (omega arith) in
     let here : 1 * arc_active v on a ≤ x * arc_active v on a =
     mul-le-mul_right (arc_active v on a) (omega (integers, first)) in
-    let rest = weighted_high v on arcs xs (omega arith) (λ k lk. high (suc k) (omega arith)) in (
-      omega (arith, here, rest.0),
-      λ none. (let product : x * arc_active v on a ≡ x * 0 = ap (λ n. x * n) (omega (arith, none)) in
-          omega (arith, product, mul-zero x, rest.1 (omega (arith, none)))),
-    )
+    search (rules, weighted_high v on arcs xs (omega arith) (λ k lk. high (suc k) (omega arith)))
 weighted_high v on _ _ l high = absurd (omega arith)
 
 -- No node has a single end: the other side would have the sum 0.
@@ -78,9 +72,7 @@ caps_ends step v _ _ = omega arith
 
 downs_ends : (step v : ℕ) (arcs : List Arc) (xs : List ℕ)
     → weighted_ends v true arcs (arcwise (down step) arcs xs) ≤ 2 * ends_on v true arcs
-downs_ends step v (a ∷ arcs) (x ∷ xs) =
-    let low : down step a x ≤ 2 = omega arith in
-    omega (arith, mul-le-mul_right (arc_active v true a) low, downs_ends step v arcs xs)
+downs_ends step v (a ∷ arcs) (x ∷ xs) = search (rules, downs_ends step v arcs xs)
 downs_ends step v _ _ = omega arith
 
 pub count_low : (net : Network) (step : ℕ) (xs : List ℕ) → length xs ≡ length net.arcs → (v : ℕ)
@@ -167,11 +159,8 @@ rim_active_low _ _ = omega arith
 
 -- The edges at the rim are at most four for each vertex there.
 rim_low : (before : Option ℕ) (fresh : ℕ) (rs : List ℕ) → length (rim_links before fresh rs) ≤ 4 * length rs
-rim_low before fresh [] = omega arith
-rim_low before fresh (r ∷ []) = grind (arith)
-rim_low before fresh (r ∷ s ∷ rs) =
-    let one : (v : ℕ) → length (link_from before v) ≤ 1 = λ v. grind (arith) in
-    simp length-append (omega (arith, one r, one fresh, rim_low (Some (fresh + 1)) (fresh + 2) (s ∷ rs)))
+rim_low before fresh (r ∷ s ∷ rs) = search (rules, rim_low (Some (fresh + 1)) (fresh + 2) (s ∷ rs))
+rim_low before fresh _ = grind arith
 
 -- Of each arc there are at most four units, all of its shape.
 shape_count : (g : End → Option End → ℕ) (net : Network) (step : ℕ) (a : Arc) (x k n : ℕ)
@@ -197,20 +186,10 @@ units_few g f net step (a ∷ arcs) (x ∷ xs) le =
 units_few g f net step _ _ le = omega arith
 
 -- More along each end.
-ends_more : (c : ℕ) (f : ℕ → ℕ) (es : List End) → count (λ e. c + f e.node) es
-    ≡ c * count (λ e. 1) es + count (λ e. f e.node) es
-ends_more c f [] = omega (arith, mul-zero c)
-ends_more c f (e ∷ es) = omega (arith, mul-add c 1 (count (λ d. 1) es), ends_more c f es)
-
 along_more : (c : ℕ) (f : ℕ → ℕ) (arcs : List Arc) → along_ends (λ v. c + f v) arcs
     ≡ c * all_ends arcs + along_ends f arcs
 along_more c f [] = omega (arith, mul-zero c)
-along_more c f (a ∷ arcs) = omega (
-  arith,
-  mul-add c (count (λ e. 1) (ends a)) (all_ends arcs),
-  ends_more c f (ends a),
-  along_more c f arcs,
-)
+along_more c f (a ∷ arcs) = search (rules, along_more c f arcs)
 
 -- The vertices of a unit, and two at the rim for it where it has one end.
 abbrev size_and_rim : End → Option End → ℕ
@@ -228,11 +207,8 @@ width_and_rim copies_at left right = width_by copies_at left right + 4 * lone_by
 widths_split : (copies_at : ℕ → ℕ) (b : ℕ) (us : List ArcUnit) → count (λ u. width_and_rim copies_at u.left u.right) us
     ≡ length (units_links copies_at b us) + 4 * count is_lone us
 widths_split copies_at b [] = refl
-widths_split copies_at b (u ∷ us) = simp length-append (omega (
-  arith,
-  links_width copies_at b u.cost u.left u.right,
-  widths_split copies_at (b + unit_size u) us,
-))
+widths_split copies_at b (u ∷ us) =
+    search (rules, length-append, links_width, widths_split copies_at (b + unit_size u) us)
 
 -- The bounds.
 pub size_law : (net : Network) (step : ℕ) (xs : List ℕ) → IsWithinBounds net → length xs ≡ length net.arcs
@@ -253,12 +229,7 @@ size_law net step xs bounds l a =
     ) in
     let pairs_low : cond lone 1 0 + 2 * (length (rim first us) - 1) ≤ 2 * count is_lone us =
     elim (cases_eq (count is_lone us) 0) [
-      | inl none ↦
-          let even : ◌≡◌ {A = ℕ} (rim_active us (states_at net step xs) % 2) 0 =
-          omega (arith, none, rim_active_low us (states_at net step xs)) in
-          let off : ◌≡◌ {A = ℕ} (cond lone 1 0) 0 =
-          rw (ne_eqb (rim_active us (states_at net step xs) % 2) 1 (λ e. omega (arith, even, e))) refl in
-          omega (arith, off, none, rim_count first us)
+      | inl none ↦ search (rules, rim_active_low, rim_count)
       | inr some ↦ omega (arith, some, once_at_most lone, rim_count first us)
     ] in
     let vertices : (matching_graph net step xs).n ≤ first + 16 * all_ends net.arcs = omega (

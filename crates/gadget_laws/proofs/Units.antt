@@ -1,6 +1,6 @@
 -- What is picked at units: the edges of their own vertices, and copies that they take.
-use Rattle.std.proofs.Common.{◌≡◌, ℕ, ◌+◌, ◌<◌, ◌≤◌, Bool, true, false, cond, not, ◌&&◌, ◌==◌, [], ◌∷◌, ◌++◌, length}
-use Rattle.std.proofs.Common.{Option, Some, None, option_to_list, ℤ, pos, ◌+ℤ◌, refl, sym, ◌∙◌, ap, eq-eqb, List}
+use Rattle.std.proofs.Common.{rules, ◌≡◌, ℕ, ◌+◌, ◌<◌, ◌≤◌, Bool, true, false, cond, not, ◌&&◌, ◌==◌, [], ◌∷◌, ◌++◌}
+use Rattle.std.proofs.Common.{length, Option, Some, None, option_to_list, ℤ, pos, ◌+ℤ◌, refl, sym, ◌∙◌, eq-eqb, List}
 use Rattle.std.proofs.Common.{ne_eqb, inl, inr, length-append, arith}
 use Rattle.std.proofs.lemmas.Bool.{cases_Bool}
 use Rattle.sum_laws.proofs.Sums.{total_below_same, total_below_sum, total_below_one, span_sum, integers}
@@ -20,8 +20,7 @@ held nodes copies_at w used = total_below (λ v. span w (count_below copies_at v
 
 pub held_same : (nodes : ℕ) (copies_at : ℕ → ℕ) (w : ℕ → ℤ) (used other : ℕ → ℕ)
     → ((v : ℕ) → v < nodes → used v ≡ other v) → held nodes copies_at w used ≡ held nodes copies_at w other
-held_same nodes copies_at w used other same =
-    total_below_same _ _ nodes (λ v l. ap (span w (count_below copies_at v)) (same v l))
+held_same nodes copies_at w used other same = search (rules, total_below_same)
 
 -- One copy more at a node.
 one_more : (w : ℕ → ℤ) (a n : ℕ) (b : Bool) → span w a (n + cond b 1 0) ≡ span w a n +ℤ cond b (w (a + n)) (pos 0)
@@ -38,9 +37,7 @@ held_end nodes copies_at w used some e l =
     total_below_same _ _ nodes (λ v lv. one_more w (count_below copies_at v) (used v) ((e.node == v) && some)) in
     let single : total_below new nodes ≡ new e.node =
     total_below_one new nodes e.node l (λ v lv ne. rw (ne_eqb e.node v (λ q. ne (sym q))) refl) in
-    let here : new e.node ≡ cond some (w (count_below copies_at e.node + used e.node)) (pos 0) =
-    rw (eq-eqb e.node e.node refl) refl in
-    omega (integers, parts, total_below_sum old new nodes, single, here)
+    search (rules, total_below_sum)
 
 -- How many active ends a unit has at a node, by its ends.
 abbrev pub ends_active : ℕ → Bool → End → Option End → ℕ
@@ -68,13 +65,7 @@ module _ (f : WEdge → ℤ) (copies_at used : ℕ → ℕ) (b : ℕ) (c : ℤ) 
       → ((v : ℕ) → used v + ends_active v on left right ≤ copies_at v)
       → picked f (end_marks copies_at used (is_active on left) left ++ ns) (to_copies copies_at b c left ++ es)
       ≡ end_value f copies_at used (is_active on left) b c left +ℤ picked f ns es
-  first_picked right ns es free = omega (
-    integers,
-    pick_append f (end_marks copies_at used (is_active on left) left) ns (to_copies copies_at b c left) es
-        (end_length copies_at used (is_active on left) left b c),
-    pick_end f copies_at used (is_active on left) left b c
-        (end_free (used left.node) (copies_at left.node) left.node (is_active on left) (omega (arith, free left.node))),
-  )
+  first_picked right ns es free = search (rules, pick_append, end_length, pick_end)
 
   pub pick_unit : (right : Option End) → ((v : ℕ) → used v + ends_active v on left right ≤ copies_at v)
       → picked f (marks_by copies_at used on left right) (links_by copies_at b c left right) ≡ unit_value right
@@ -170,11 +161,7 @@ unit_cost copies_at used b c on left (Some right) free = pick_unit (λ e. e.cost
 -- A unit has as many marks as edges.
 pub unit_length : (copies_at used : ℕ → ℕ) (b : ℕ) (c : ℤ) (on : Bool) (left : End) (right : Option End)
     → length (marks_by copies_at used on left right) ≡ length (links_by copies_at b c left right)
-unit_length copies_at used b c on left None = simp (length-append, choice_length, fan_length)
-unit_length copies_at used b c on left (Some right) = elim (cases_Bool (are_alike left right)) [
-  | inl e ↦ rw e (simp (length-append, choice_length, fan_length))
-  | inr e ↦ rw e (simp (length-append, choice_length, fan_length))
-]
+unit_length copies_at used b = search (rules, length-append, choice_length, fan_length)
 
 -- The ends of all units are at nodes.
 abbrev pub UnitsAt : ℕ → List ArcUnit → Type 0
@@ -209,7 +196,6 @@ units_weight w nodes copies_at used b _ _ l at free = absurd (omega arith)
 pub units_cost : (copies_at used : ℕ → ℕ) (b : ℕ) (us : List ArcUnit) (ons : List Bool) → length us ≡ length ons
     → ((v : ℕ) → used v + active v us ons ≤ copies_at v)
     → picked (λ e. e.cost) (units_marks copies_at used us ons) (units_links copies_at b us) ≡ cost_on us ons
-units_cost copies_at used b [] [] l free = refl
 units_cost copies_at used b (u ∷ us) (on ∷ ons) l free =
     let next : ℕ → ℕ = λ v. used v + active_at v u on in
     omega (
@@ -220,24 +206,22 @@ units_cost copies_at used b (u ∷ us) (on ∷ ons) l free =
       unit_cost copies_at used b u.cost on u.left u.right (λ v. omega (arith, free v)),
       units_cost copies_at next (b + unit_size u) us ons (omega arith) (λ v. omega (arith, free v)),
     )
-units_cost copies_at used b _ _ l free = absurd (omega arith)
+units_cost copies_at used b _ _ l free = omega integers
 
 -- There are as many marks as edges.
 pub units_length : (copies_at used : ℕ → ℕ) (b : ℕ) (us : List ArcUnit) (ons : List Bool) → length us ≡ length ons
     → length (units_marks copies_at used us ons) ≡ length (units_links copies_at b us)
-units_length copies_at used b [] [] l = refl
 units_length copies_at used b (u ∷ us) (on ∷ ons) l = simp length-append (rw (
   unit_length copies_at used b u.cost on u.left u.right,
   units_length copies_at (λ v. used v + active_at v u on) (b + unit_size u) us ons (omega arith),
 ) refl)
-units_length copies_at used b _ _ l = absurd (omega arith)
+units_length copies_at used b _ _ l = omega arith
 
 -- There are as many states at the rim as vertices.
 pub states_length : (b : ℕ) (us : List ArcUnit) (ons : List Bool) → length us ≡ length ons → length (rim_states us ons)
     ≡ length (rim b us)
-states_length b [] [] l = refl
 states_length b (u ∷ us) (on ∷ ons) l = grind (arith, states_length (b + unit_size u) us ons (omega arith))
-states_length b _ _ l = absurd (omega arith)
+states_length b _ _ l = omega arith
 
 -- Those that wait are the active ones.
 pub rim_trues : (us : List ArcUnit) (ons : List Bool) → trues (rim_states us ons) ≡ rim_active us ons

@@ -1,5 +1,5 @@
 -- The whole matching of states: each vertex gets one mate, and the cost is that of the units that are on.
-use Rattle.std.proofs.Common.{◌≡◌, ℕ, zero, suc, ◌+◌, ◌*◌, ◌%◌, ◌<◌, Bool, true, false, cond, ◌==◌, List, [], ◌∷◌}
+use Rattle.std.proofs.Common.{rules, ◌≡◌, ℕ, zero, suc, ◌+◌, ◌*◌, ◌%◌, ◌<◌, Bool, true, false, cond, ◌==◌, List, ◌∷◌}
 use Rattle.std.proofs.Common.{length, map, Option, Some, None, ℤ, pos, ◌+ℤ◌, refl, ◌∙◌, zero-add, add-zero, ◌≢◌}
 use Rattle.std.proofs.Common.{length-append, eq-eqb, ne_eqb, mul-zero, mul-add, arith}
 use Rattle.def_math.specs.{Sums.total, Sums.total_below, Sums.span, Counts.count, Counts.count_below}
@@ -70,24 +70,12 @@ graph_total w nodes copies_at lone us =
     (cond o (Some inner) None) o = elim [
       | true ↦ total_below_span w inner 1 ∙ omega integers
       | false ↦ rw (add-zero inner) (omega integers)
-    ] in
-    omega (
-      integers,
-      total_below_span w (first_fresh nodes copies_at lone us) (pairs (length (rim copies us))),
-      total_below_span w copies (count unit_size us),
-      by_lone lone,
-    )
+    ] in search (rules, total_below_span)
 
 -- There are as many marks as edges.
 pub marks_length : (nodes : ℕ) (copies_at : ℕ → ℕ) (lone : Bool) (us : List ArcUnit) (ons : List Bool) → length us
     ≡ length ons → length (states_marks nodes copies_at lone us ons) ≡ length (graph_by nodes copies_at lone us).edges
-marks_length nodes copies_at lone us ons same =
-    let copies = count_below copies_at nodes in
-    simp length-append (rw (
-      units_length copies_at (λ v. 0) copies us ons same,
-      rim_length (lone_vertex nodes copies_at lone us) lone (first_fresh nodes copies_at lone us) (rim copies us)
-          (rim_states us ons) (states_length copies us ons same),
-    ) refl)
+marks_length nodes copies_at lone us ons same = search (rules, length-append, units_length, rim_length, states_length)
 
 module _ {nodes : ℕ} {copies_at : ℕ → ℕ} {lone : Bool} {us : List ArcUnit} {ons : List Bool}
     (fit : StatesFit nodes copies_at lone us ons) where
@@ -111,9 +99,7 @@ module _ {nodes : ℕ} {copies_at : ℕ → ℕ} {lone : Bool} {us : List ArcUni
   marked : (f : WEdge → ℤ) → total f (map (edge_at g) (places 0 marks))
       ≡ picked f (units_marks copies_at (λ v. 0) us ons) (units_links copies_at copies us) +ℤ picked f
       (rim_marks before lone fresh (rim_states us ons)) (rim_links before fresh (rim copies us))
-  marked f = chosen_sum g f marks (marks_length nodes copies_at lone us ons fit.count)
-      ∙ pick_append f (units_marks copies_at (λ v. 0) us ons) _ (units_links copies_at copies us) _
-      (units_length copies_at (λ v. 0) copies us ons fit.count)
+  marked f = search (rules, chosen_sum, marks_length, pick_append, units_length)
 
   -- The places of the marks are a perfect matching: for each weight the ends of its edges weigh what all vertices do.
   pub states_perfect : IsPerfect (graph_by nodes copies_at lone us)
@@ -121,8 +107,7 @@ module _ {nodes : ℕ} {copies_at : ℕ → ℕ} {lone : Bool} {us : List ArcUni
   states_perfect =
       let there : (o : Bool) → IsThere (lone_vertex nodes copies_at o us) o = elim [ true ↦ tt | false ↦ refl ] in
       record {
-        increasing = places_rise 0 0 (length g.edges) marks (omega arith)
-            (omega (arith, marks_length nodes copies_at lone us ons fit.count));
+        increasing = search (rules, places_rise, marks_length);
         once = λ v l. omega (
           integers,
           count_total (ends_at v) (map (edge_at g) (places 0 marks)),
@@ -140,21 +125,14 @@ module _ {nodes : ℕ} {copies_at : ℕ → ℕ} {lone : Bool} {us : List ArcUni
   -- Its cost is that of the units that are on.
   pub states_cost : matching_cost (graph_by nodes copies_at lone us)
       (places 0 (states_marks nodes copies_at lone us ons)) ≡ cost_on us ons
-  states_cost = omega (
-    integers,
-    marked (λ (e : WEdge). e.cost),
-    units_cost copies_at (λ v. 0) copies us ons fit.count (λ v. omega (arith, fit.fills v)),
-    picked_free (rim_marks before lone fresh (rim_states us ons)) (rim_links before fresh (rim copies us))
-        (rest_free nodes copies_at lone us),
-  )
+  states_cost = search (rules, marked, units_cost, picked_free, rest_free)
 
 -- Where all weigh n, so do the picked ones.
 picked_all : {X : Type 0} (n : ℕ) (ms : List Bool) (xs : List X) → length ms ≡ length xs → picked (λ x. pos n) ms xs
     ≡ pos (n * trues ms)
-picked_all n [] [] l = omega (integers, mul-zero n)
 picked_all n (true ∷ ms) (x ∷ xs) l = omega (integers, mul-add n 1 (trues ms), picked_all n ms xs (omega arith))
 picked_all n (false ∷ ms) (x ∷ xs) l = rw zero-add (omega (integers, picked_all n ms xs (omega arith)))
-picked_all n _ _ l = absurd (omega arith)
+picked_all n _ _ l = omega (integers, mul-zero n)
 
 -- States that fill the same copies have as many active units at the rim, but for an even number.
 pub rim_parity : (nodes : ℕ) (copies_at : ℕ → ℕ) (us : List ArcUnit) (ons other : List Bool) → UnitsAt nodes us

@@ -1,6 +1,6 @@
 -- Filters of a range and the first that passes: what stands at each place, that each number that passes has one.
-use Rattle.std.proofs.Common.{◌≡◌, ◌⊎◌, ℕ, zero, suc, ◌+◌, ◌<◌, ◌≤◌, Bool, true, false, cond, List, [], ◌∷◌, ◌++◌}
-use Rattle.std.proofs.Common.{length, map, get_or, Some, None, sym, subst, ap, ◌∙◌, refl, inl, inr, arith}
+use Rattle.std.proofs.Common.{rules, ◌≡◌, ◌⊎◌, ℕ, zero, suc, ◌+◌, ◌<◌, ◌≤◌, Bool, true, false, cond, List, [], ◌∷◌}
+use Rattle.std.proofs.Common.{◌++◌, length, map, get_or, Some, None, sym, subst, ap, ◌∙◌, refl, inl, inr, arith}
 use Rattle.std.proofs.lemmas.Bool.{both_ways, cases_eq, cases_lt, or_left, or_right, or_cases, false≢true}
 use Rattle.std.proofs.{lemmas.Option.none-some, lemmas.Option.same_Some, lemmas.List.FromFn.map-range_with_len_more}
 use Rattle.std.proofs.{lemmas.List.map-id, lemmas.List.Elements.filter-append}
@@ -79,8 +79,7 @@ filter_range_more p n = ap (filter p) (range_more n) ∙ filter-append p (range_
 pub find_none : (p : ℕ → Bool) (a n : ℕ) → ((x : ℕ) → a ≤ x → x < a + n → p x ≡ false) → find p (range_with_len a n)
     ≡ None
 find_none p a zero none = refl
-find_none p a (suc n) none = ap (λ b. cond b (Some a) (find p (range_with_len (a + 1) n)))
-    (none a (omega arith) (omega arith)) ∙ find_none p (a + 1) n (λ x l h. none x (omega arith) (omega arith))
+find_none p a (suc n) none = search (rules, find_none p (a + 1) n (λ x l h. none x (omega arith) (omega arith)))
 
 pub find_one : (p : ℕ → Bool) (a n x : ℕ) → a ≤ x → x < a + n → p x ≡ true
     → ((y : ℕ) → a ≤ y → y < a + n → p y ≡ true → y ≡ x) → find p (range_with_len a n) ≡ Some x
@@ -120,8 +119,7 @@ pub range_any : (p : ℕ → Bool) (a n : ℕ) → list_any p (range_with_len a 
 range_any p a zero t = absurd (false≢true t)
 range_any p a (suc n) t = elim (or_cases _ _ t) [
   | inl on ↦ (a, omega arith, omega arith, on)
-  | inr rest ↦ let r : (x : ℕ) × (a + 1 ≤ x) × (x < a + 1 + n) × (p x ≡ true) = range_any p (a + 1) n rest in
-      (r.0, omega (arith, r.1), omega (arith, r.2), r.3)
+  | inr rest ↦ search (rules, range_any p (a + 1) n rest)
 ]
 
 -- Values along a range that agree.

@@ -1,6 +1,6 @@
 -- The walk law: a tour through the copies of a difference is a small part of it.
-use Rattle.std.proofs.Common.{◌≡◌, ℕ, ◌<◌, Bool, true, false, cond, List, [], ◌∷◌, length, ℤ, pos, ◌+ℤ◌, ◌-ℤ◌, refl}
-use Rattle.std.proofs.Common.{◌∙◌, ap, arith, ◌≢◌, ◌≤◌, not, option_to_list, Option, Some, None, negsuc, neg_ℤ}
+use Rattle.std.proofs.Common.{rules, ◌≡◌, ℕ, ◌<◌, Bool, true, false, cond, List, [], ◌∷◌, length, ℤ, pos, ◌+ℤ◌, ◌-ℤ◌}
+use Rattle.std.proofs.Common.{refl, ◌∙◌, ap, arith, ◌≢◌, ◌≤◌, not, option_to_list, Option, Some, None, negsuc, neg_ℤ}
 use Rattle.std.proofs.Common.{unsigned_abs, sym, inl, inr, eq-eqb, zero, suc, ◌+◌, ◌*◌, ◌*ℤ◌, ◌≤ℤ◌, ◌⊎◌}
 use Rattle.std.proofs.Common.{mul-le-mul_left, mul-add}
 use Rattle.std.proofs.{lemmas.Bool.cases_lt, lemmas.Bool.cases_eq, Math.IntN.*ℤ-zero}
@@ -24,8 +24,7 @@ ends_sum v plus x y (e ∷ es) =
 -- The sums on a side depend on the entries of the arcs alone.
 pub same_sides : (arcs : List Arc) (x y : ℕ → ℤ) → ((k : ℕ) → k < length arcs → x k ≡ y k) → (plus : Bool) (v : ℕ)
     → side_sum arcs x plus v ≡ side_sum arcs y plus v
-same_sides arcs x y same plus v = total_below_same _ _ (length arcs)
-    (λ k l. ap (λ z. total (λ e. cond (is_on_side v plus e) z (pos 0)) (ends (arc_at arcs k))) (same k l))
+same_sides arcs x y same plus v = search (rules, total_below_same)
 
 sides_sum : (arcs : List Arc) (x y : ℕ → ℤ) (plus : Bool) (v : ℕ)
     → side_sum arcs (λ k. x k +ℤ y k) plus v ≡ side_sum arcs x plus v +ℤ side_sum arcs y plus v
@@ -190,8 +189,7 @@ times_le (suc q) a b le = omega (integers, le, times_le q a b le)
 
 -- A part stays a part when both are multiplied.
 part_times : (q : ℕ) (c d : ℤ) → IsPart c d → IsPart (pos q *ℤ c) (pos q *ℤ d)
-part_times q c d (inl (low, high)) =
-    inl (omega (integers, times_le q (pos 0) c low, *ℤ-zero (pos q)), times_le q c d high)
+part_times q c d (inl (low, high)) = search (rules, times_le)
 part_times q c d (inr (low, high)) =
     inr (times_le q d c low, omega (integers, times_le q c (pos 0) high, *ℤ-zero (pos q)))
 

@@ -1,13 +1,13 @@
 -- A walk through copies of arcs: it goes on from each port by an unused copy, until a port comes again.
-use Rattle.std.proofs.Common.{◌≡◌, ◌≢◌, ℕ, zero, suc, ◌+◌, ◌-◌, ◌<◌, ◌≤◌, Bool, true, false, cond, not, ◌==◌, List, []}
-use Rattle.std.proofs.Common.{◌∷◌, Option, Some, None, ℤ, pos, ◌+ℤ◌, ◌-ℤ◌, ◌<ℤ◌, refl, sym, ◌∙◌, ap, inl, inr, ◌⊎◌}
-use Rattle.std.proofs.Common.{true≢false, arith, eq-eqb, ne_eqb}
+use Rattle.std.proofs.Common.{rules, ◌≡◌, ◌≢◌, ℕ, zero, suc, ◌+◌, ◌-◌, ◌<◌, ◌≤◌, Bool, true, false, cond, not, ◌==◌}
+use Rattle.std.proofs.Common.{List, [], ◌∷◌, Option, Some, None, ℤ, pos, ◌+ℤ◌, ◌-ℤ◌, ◌<ℤ◌, refl, sym, ◌∙◌, ap, inl, inr}
+use Rattle.std.proofs.Common.{◌⊎◌, true≢false, arith, eq-eqb, ne_eqb}
 use Rattle.std.proofs.lemmas.Bool.{cases_eq, cases_Bool}
 use Rattle.def_math.specs.{Sums.total, Sums.total_below, Counts.count, Counts.count_below}
 use Rattle.sum_laws.proofs.Sums.{total_below_sum, total_below_same, total_below_none, total_below_one, integers}
 use Rattle.sum_laws.proofs.Sums.{cases_neg, some_below, count_below_lt}
-use Rattle.network_laws.proofs.Ports.{Port, opposite, weigh, is_same, same_is, is_same_self, weigh_opposite, weigh_sum}
-use Rattle.network_laws.proofs.Ports.{weigh_none, weigh_self, weigh_other, weigh_low}
+use Rattle.network_laws.proofs.Ports.{Port, opposite, weigh, is_same, same_is, weigh_opposite, weigh_sum, weigh_none}
+use Rattle.network_laws.proofs.Ports.{weigh_self, weigh_other, weigh_low}
 
 -- A step along an arc, from its left end to its right one or back.
 pub record Step : Type 0 where
@@ -126,17 +126,11 @@ module _ (left right : ℕ → Option Port) where
   -- One step more to a port that was not reached yet.
   once_more : (s : Step) (m : List Step) → ((q : Option Port) → visits q m ≤ 1) → visits (head s) m ≡ 0
       → (q : Option Port) → visits q (s ∷ m) ≤ 1
-  once_more s m once fresh q = elim (cases_Bool (is_same q (head s))) [
-    | inl f ↦ let none : visits q m ≡ 0 = rw (same_is q (head s) f) fresh in rw f (omega (arith, none))
-    | inr f ↦ rw f (omega (arith, once q))
-  ]
+  once_more s m once fresh q = search rules
 
   -- Two ports that differ, in the other order.
   differ_flip : (a q p : Option Port) → q ≡ p → is_same a q ≡ false → is_same p a ≡ false
-  differ_flip a q p e off = elim (cases_Bool (is_same p a)) [
-    | inr f ↦ f
-    | inl f ↦ absurd (true≢false (sym (is_same_self a) ∙ (rw (e ∙ same_is p a f) at off)))
-  ]
+  differ_flip a q p e off = search rules
 
   module _ (n : ℕ) (copies : ℕ → ℕ) where
     -- A closed walk through copies of the arcs below n: it reaches no port twice.
@@ -268,15 +262,7 @@ module _ (left right : ℕ → Option Port) where
 
     -- The walk that begins with a step.
     begun : (s : Step) → s.arc < n → 0 < copies s.arc → Walk (opposite (tail s)) [] s
-    begun s l c = record {
-      path = refl;
-      low = tt;
-      arc = l;
-      within = λ k. omega arith;
-      unused = c;
-      once = λ q. omega arith;
-      start = refl;
-    }
+    begun s l c = search rules
 
     -- Where the copies are even for each effect, and there are some, there is a closed walk.
     pub tour : IsEvenOut → (j : ℕ) → j < n → 0 < copies j → Tour
@@ -303,15 +289,7 @@ module _ (left right : ℕ → Option Port) where
   -- An arc is used at most as often as its ends are reached.
   uses_low : (k : ℕ) (l : List Step) → uses k l ≤ visits (left k) l + visits (right k) l
   uses_low k [] = omega arith
-  uses_low k (s ∷ l) =
-      let reached : (back : Bool) → 1 ≤ cond (is_same (left k) (cond back (left k) (right k))) 1 0
-      + cond (is_same (right k) (cond back (left k) (right k))) 1 0 = λ back. grind (arith) in
-      let here : cond (s.arc == k) 1 0 ≤ cond (is_same (left k) (head s)) 1 0 + cond (is_same (right k) (head s)) 1 0 =
-      elim (cases_eq s.arc k) [
-        | inl e ↦ rw (eq-eqb s.arc k e, e) (reached s.back)
-        | inr ne ↦ rw (ne_eqb s.arc k ne) (omega arith)
-      ] in
-      omega (arith, here, uses_low k l)
+  uses_low k (s ∷ l) = search (rules, eq-eqb, uses_low k l)
 
   -- A tour uses each arc at most twice.
   pub at_most_twice : (n : ℕ) (copies : ℕ → ℕ) (t : Tour n copies) (k : ℕ) → uses k (t.first ∷ t.others) ≤ 2

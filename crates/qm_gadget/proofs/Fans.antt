@@ -1,6 +1,6 @@
 -- Parts of lists joined one after the other: of edges, and of units and states by lows and caps.
-use Rattle.std.proofs.Common.{◌≡◌, ℕ, zero, suc, ◌+◌, List, [], ◌∷◌, ◌++◌, ℤ, refl, ◌∙◌, ap, append_assoc, add-one}
-use Rattle.std.proofs.Common.{add-zero, arith, ◌-◌, true, false, length, map, sym}
+use Rattle.std.proofs.Common.{rules, ◌≡◌, ℕ, zero, suc, ◌+◌, List, [], ◌∷◌, ◌++◌, ℤ, refl, ◌∙◌, ap, append_assoc}
+use Rattle.std.proofs.Common.{add-one, add-zero, arith, ◌-◌, true, length, map, sym}
 use Rattle.std.proofs.{lemmas.Bool.Decides.nat_tests, lemmas.List.length-append}
 use Rattle.def_flow.specs.Units.{arcwise, down, cap, run, units_from, states, states_at, unit_at, units_over}
 use Rattle.def_flow.specs.Units.{states_over}
@@ -9,9 +9,7 @@ use Rattle.{std.specs.Prelude.nat_lt, gadget_laws.proofs.Box.units_length, gadge
 
 fan_suc : (u : ℕ) (c : ℤ) (a n : ℕ) → fan u c a (suc n) ≡ fan u c a n ++ link u (a + n) c ∷ []
 fan_suc u c a zero = rw (add-zero a) refl
-fan_suc u c a (suc n) =
-    let there : a + 1 + n ≡ a + suc n = omega arith in
-    ap (λ es. link u a c ∷ es) (rw (← there) (fan_suc u c (a + 1) n))
+fan_suc u c a (suc n) = search (rules, fan_suc u c (a + 1) n)
 
 -- One edge more of a fan.
 pub fan_more : (u : ℕ) (c : ℤ) (a n : ℕ) → fan u c a (n + 1) ≡ fan u c a n ++ link u (a + n) c ∷ []
@@ -24,8 +22,7 @@ two_parts old mid now xs ys first second = second ∙ (ap (λ l. l ++ ys) first 
 -- Three parts after what was there.
 pub three_parts : {X : Type 0} (old mid next now xs ys zs : List X) → mid ≡ old ++ xs → next ≡ mid ++ ys
     → now ≡ next ++ zs → now ≡ old ++ (xs ++ (ys ++ zs))
-three_parts old mid next now xs ys zs first second third =
-    two_parts old mid now xs (ys ++ zs) first (two_parts mid next now ys zs second third)
+three_parts old mid next now xs ys zs first second third = search (rules, two_parts)
 
 -- The four parts of a rung after what was there.
 pub rung_parts : {X : Type 0} (old one two three now : List X) (xs : List X) (y : X) (ys : List X) (z : X)
@@ -38,23 +35,18 @@ rung_parts old one two three now xs y ys z first second third fourth = two_parts
 pub run_suc : (j n : ℕ) → run j (suc n) ≡ run j n ++ nat_lt n j ∷ []
 run_suc zero zero = refl
 run_suc (suc j) zero = let on : nat_lt 0 (suc j) ≡ true = grind (arith, nat_tests) in ap (λ b. b ∷ []) (sym on)
-run_suc zero (suc n) = let off : nat_lt n 0 ≡ nat_lt (suc n) 0 = grind (arith, nat_tests) in
-    ap (λ bs. false ∷ bs) (run_suc zero n ∙ ap (λ b. run zero n ++ b ∷ []) off)
-run_suc (suc j) (suc n) = let same : nat_lt n j ≡ nat_lt (suc n) (suc j) = grind (arith, nat_tests) in
-    ap (λ bs. true ∷ bs) (run_suc j n ∙ ap (λ b. run j n ++ b ∷ []) same)
+run_suc zero (suc n) = search (rules, run_suc zero n)
+run_suc (suc j) (suc n) = search (rules, run_suc j n)
 
 -- One unit more of an arc.
 pub from_suc : (net : Network) (step : ℕ) (a : Arc) (l k n : ℕ) → units_from net step a l k (suc n)
     ≡ units_from net step a l k n ++ unit_at net step a l (k + n) ∷ []
 from_suc net step a l k zero = rw (add-zero k) refl
-from_suc net step a l k (suc n) =
-    let there : k + 1 + n ≡ k + suc n = omega arith in
-    ap (λ us. unit_at net step a l k ∷ us) (rw (← there) (from_suc net step a l (k + 1) n))
+from_suc net step a l k (suc n) = search (rules, from_suc net step a l (k + 1) n)
 
 downs : (step : ℕ) (arcs : List Arc) (xs : List ℕ) → map (λ c. c - 2) (arcwise (cap step) arcs xs)
     ≡ arcwise (down step) arcs xs
-downs step (a ∷ arcs) (x ∷ xs) =
-    let here : down step a x + 2 - 2 ≡ down step a x = omega arith in rw (here, downs step arcs xs) refl
+downs step (a ∷ arcs) (x ∷ xs) = search (rules, downs step arcs xs)
 downs step _ _ = refl
 
 -- The states at the list itself.

@@ -1,11 +1,11 @@
 -- Counts of active ends, one unit at a time.
-use Rattle.std.proofs.Common.{◌≡◌, ℕ, zero, suc, ◌+◌, ◌*◌, ◌%◌, ◌<◌, ◌≤◌, ◌==◌, Bool, false, not, ◌&&◌, cond, List, ◌∷◌}
-use Rattle.std.proofs.Common.{length, take, drop, None, pos, refl, inl, inr, arith}
-use Rattle.std.proofs.{lemmas.Bool.cases_lt, lemmas.List.drop_more, lemmas.List.get_or_past}
+use Rattle.std.proofs.Common.{rules, ◌≡◌, ℕ, zero, suc, ◌+◌, ◌*◌, ◌%◌, ◌<◌, ◌≤◌, ◌==◌, Bool, false, not, ◌&&◌, cond}
+use Rattle.std.proofs.Common.{List, ◌∷◌, length, take, drop, None, pos, refl, arith}
+use Rattle.std.proofs.{lemmas.List.drop_more, lemmas.List.get_or_past}
 use mathlib.Core.Bool.{beq}
 use Rattle.def_flow.specs.{Units.is_active, Units.active_at, Units.active, declared.units.ArcUnit.ArcUnit}
 use Rattle.{std.specs.Prelude.slice_index, std.specs.Prelude.slice_index_or, def_math.specs.Tables.IsRaised}
-use Rattle.{gadget_laws.proofs.Arcs.ends_past, qm_gadget.specs.Layout.IsAtNodes, sum_laws.proofs.Tests.once_at_most}
+use Rattle.{qm_gadget.specs.Layout.IsAtNodes, sum_laws.proofs.Tests.once_at_most}
 
 -- Past the last unit stands this one.
 abbrev pub no_unit : ArcUnit
@@ -46,12 +46,4 @@ differ_parity a b r = grind (arith)
 -- A table with the active ends of a unit added, at each number, also past the nodes.
 pub raised_read : (u : ArcUnit) (on : Bool) (nodes : ℕ) (old new : List ℕ) → length old ≡ nodes → IsAtNodes nodes u
     → IsRaised (λ v. active_at v u on) old new → (v : ℕ) → slice_index new v ≡ slice_index old v + active_at v u on
-raised_read u on nodes old new long at raised v = elim (cases_lt v (length old)) [
-  | inl l ↦ raised.each v l
-  | inr h ↦ omega (
-    arith,
-    get_or_past new v 0 (omega (arith, raised.long)),
-    get_or_past old v 0 h,
-    ends_past nodes v on u.left u.right (omega (arith, long)) at,
-  )
-]
+raised_read u on nodes old new long at raised v = search (rules, get_or_past)

@@ -1,12 +1,11 @@
 -- Numbers of marks, one part of the marks after the other.
-use Rattle.std.proofs.Common.{◌≡◌, ℕ, zero, suc, ◌+◌, ◌<◌, ◌≤◌, ◌==◌, Bool, true, false, not, ◌&&◌, cond, List, [], ◌∷◌}
-use Rattle.std.proofs.Common.{◌++◌, length, drop, Option, Some, None, pos, refl, sym, ◌∙◌, ap, add-zero, inl, inr}
-use Rattle.std.proofs.Common.{arith, ◌-◌, ◌*◌, take, zero-add, length-append}
-use Rattle.std.proofs.lemmas.Bool.{cases_eq, eq-eqb, ne_eqb, lt-ltb, le-ltb, cases_lt}
-use Rattle.std.proofs.{lemmas.Bool.Decides.nat_tests, lemmas.List.drop_more, lemmas.List.drop_all}
-use Rattle.std.proofs.{lemmas.List.append-nil}
+use Rattle.std.proofs.Common.{rules, ◌≡◌, ℕ, zero, suc, ◌+◌, ◌<◌, ◌≤◌, ◌==◌, Bool, true, false, not, ◌&&◌, cond, List}
+use Rattle.std.proofs.Common.{[], ◌∷◌, ◌++◌, length, drop, Option, Some, None, pos, refl, sym, ◌∙◌, ap, add-zero, inl}
+use Rattle.std.proofs.Common.{inr, arith, ◌-◌, take, zero-add, length-append}
+use Rattle.std.proofs.lemmas.Bool.{cases_eq, eq-eqb, ne_eqb, lt-ltb, le-ltb}
+use Rattle.std.proofs.{lemmas.List.drop_more, lemmas.List.drop_all, lemmas.List.append-nil}
 use Rattle.std.specs.{Prelude.nat_lt, Prelude.slice_index_or, Bool.beq}
-use Rattle.def_flow.specs.MatchingGraph.{are_alike, graph_by, units_links, unit_size}
+use Rattle.def_flow.specs.MatchingGraph.{graph_by, units_links, unit_size}
 use Rattle.def_flow.specs.{Units.is_active, Units.arcwise, Units.low, Units.cap, declared.net.End.End}
 use Rattle.def_flow.specs.{declared.net.Arc.Arc, declared.units.ArcUnit.ArcUnit}
 use Rattle.gadget_laws.specs.Marks.{choice, places, take_end, end_marks, marks_by, differ, mark_from, rim_marks, trues}
@@ -14,16 +13,13 @@ use Rattle.gadget_laws.specs.Told.{width_by, marks_from, state_told, states_told
 use Rattle.gadget_laws.proofs.{Pick.choice_length, Pick.links_width, Units.unit_length}
 use Rattle.qm_gadget.specs.{Marked.right_marks, Marked.mark_if, Marked.rim_by, Marked.turn_marks, Read.width_of_unit}
 use Rattle.qm_gadget.specs.{Read.first_below, Read.skip_below, Read.lengths_by}
-use Rattle.qm_gadget.proofs.Fans.{two_parts}
-use Rattle.def_math.specs.{Counts.count, Counts.count_below, Increasing.IsIncreasing}
+use Rattle.{qm_gadget.proofs.Fans.two_parts, def_math.specs.Counts.count, def_math.specs.Increasing.IsIncreasing}
 
 -- The numbers of two lists of marks in a row.
 pub places_append : (k : ℕ) (ms ns : List Bool) → places k (ms ++ ns) ≡ places k ms ++ places (k + length ms) ns
 places_append k [] ns = ap (λ i. places i ns) (sym (add-zero k))
-places_append k (true ∷ ms) ns =
-    let there : k + 1 + length ms ≡ k + suc (length ms) = omega arith in rw (places_append (k + 1) ms ns, there) refl
-places_append k (false ∷ ms) ns =
-    let there : k + 1 + length ms ≡ k + suc (length ms) = omega arith in rw (places_append (k + 1) ms ns, there) refl
+places_append k (true ∷ ms) ns = search (rules, places_append (k + 1) ms ns)
+places_append k (false ∷ ms) ns = search (rules, places_append (k + 1) ms ns)
 
 none_chosen : (k i n : ℕ) → places k (choice false i n) ≡ []
 none_chosen k i zero = refl
@@ -36,27 +32,12 @@ pub choice_places : (k : ℕ) (some : Bool) (i n : ℕ) → places k (choice som
 choice_places k false i n = none_chosen k i n
 choice_places k true i zero = rw (le-ltb i 0 (omega arith)) refl
 choice_places k true zero (suc n) = rw (lt-ltb 0 (suc n) (omega arith), none_chosen (k + 1) zero n, add-zero k) refl
-choice_places k true (suc i) (suc n) =
-    let same : nat_lt i n ≡ nat_lt (suc i) (suc n) = grind (arith, nat_tests) in
-    let there : k + 1 + i ≡ k + suc i = omega arith in
-    rw (choice_places (k + 1) true i n, same, there) refl
+choice_places k true (suc i) (suc n) = search (rules, choice_places (k + 1) true i n)
 
 -- The numbers of one part of the marks after what was there, and those of a second part.
 pub places_two : {mid now : List ℕ} {n : ℕ} (old : List ℕ) (k : ℕ) (ms ns : List Bool) → length ms ≡ n
     → mid ≡ old ++ places k ms → now ≡ mid ++ places (k + n) ns → now ≡ old ++ places k (ms ++ ns)
-places_two {mid} {now} old k ms ns width first second =
-    rw (places_append k ms ns, width) (two_parts old mid now _ _ first second)
-
-cond_append : (b : Bool) (xs ys zs : List Bool) → cond b (xs ++ ys) (xs ++ zs) ≡ xs ++ cond b ys zs
-cond_append true xs ys zs = refl
-cond_append false xs ys zs = refl
-
--- The marks of a unit with two ends: those of the first end, and the others.
-pub marks_two : (copies_at used : ℕ → ℕ) (on : Bool) (left right : End) → marks_by copies_at used on left (Some right)
-    ≡ end_marks copies_at used (is_active on left) left
-    ++ right_marks copies_at (take_end used (is_active on left) left) on left right
-marks_two copies_at used on left right =
-    cond_append (are_alike left right) (end_marks copies_at used (is_active on left) left) _ _
+places_two {mid} {now} old k ms ns width first second = search (rules, places_append, two_parts)
 
 -- A unit has as many marks as edges.
 pub marks_width : (copies_at used : ℕ → ℕ) (on : Bool) (left : End) (right : Option End)
@@ -76,20 +57,14 @@ pub rim_is : (before : Option ℕ) (waits : Bool) (fresh : ℕ) (os : List Bool)
     ≡ rim_by (is_there before) waits os
 rim_is before waits fresh [] = refl
 rim_is before waits fresh (o ∷ []) = mark_is before (waits && o)
-rim_is before waits fresh (o ∷ p ∷ os) = rw (
-  mark_is before (waits && o),
-  mark_is before (waits && not o),
-  rim_is (Some (fresh + 1)) (differ waits o) (fresh + 2) (p ∷ os),
-) refl
+rim_is before waits fresh (o ∷ p ∷ os) = search (rules, rim_is (Some (fresh + 1)) (differ waits o) (fresh + 2) (p ∷ os))
 
 -- The marks of a unit with two ends, where the copies in use are counted in between.
 pub unit_two : (old mid now : List ℕ) (k : ℕ) (copies_at used next : ℕ → ℕ) (on : Bool) (left right : End)
     → next right.node ≡ take_end used (is_active on left) left right.node → mid ≡ old ++ places k
     (end_marks copies_at used (is_active on left) left) → now ≡ mid ++ places (k + copies_at left.node)
     (right_marks copies_at next on left right) → now ≡ old ++ places k (marks_by copies_at used on left (Some right))
-unit_two old mid now k copies_at used next on left right taken first second =
-    rw (marks_two copies_at used on left right, ← taken)
-    (places_two old k _ _ (choice_length (is_active on left) (used left.node) (copies_at left.node)) first second)
+unit_two old mid now k copies_at used next on left right taken first second = search (rules, places_two, choice_length)
 
 -- The numbers of the first part of the marks, and those of what is left.
 pub marks_step : (m now : List ℕ) (k w : ℕ) (part rest whole : List Bool) → whole ≡ part ++ rest → length part ≡ w
@@ -133,21 +108,14 @@ skip_none k high (e ∷ m) increasing = rw (le-ltb e k increasing.0) refl
 -- Without the numbers below a bound it rises from the bound on.
 pub increasing_skip : (k end high : ℕ) (m : List ℕ) → IsIncreasing k high m → IsIncreasing end high (skip_below end m)
 increasing_skip k end high [] increasing = tt
-increasing_skip k end high (e ∷ m) increasing = elim (cases_lt e end) [
-  | inl l ↦ rw (lt-ltb e end l) (increasing_skip (e + 1) end high m increasing.2)
-  | inr h ↦ rw (le-ltb e end h) (h, increasing.1, increasing.2)
-]
+increasing_skip k end high (e ∷ m) increasing = search (rules, increasing_skip (e + 1) end high m increasing.2)
 
 -- What is left of the marks past a number of edges, and whether one of these is marked: exactly if the first number is
 -- among them.
 marks_past : (w n t k high : ℕ) (m : List ℕ) → t ≡ w + n → IsIncreasing k high m
     → (drop w (marks_from k t m) ≡ marks_from (k + w) n (skip_below (k + w) m))
     × (nat_lt 0 (trues (take w (marks_from k t m))) ≡ first_below m (k + w))
-marks_past zero n t k high m e increasing =
-    let long : t ≡ n = omega arith in (
-      rw (add-zero k, long, skip_none k high m increasing) refl,
-      rw (add-zero k) (sym (none_below_first k high m increasing)),
-    )
+marks_past zero n t k high m e increasing = search (rules, add-zero, skip_none, none_below_first)
 marks_past (suc w) n zero k high m e increasing = absurd (omega arith)
 marks_past (suc w) n (suc t) k high [] e increasing =
     let there : k + 1 + w ≡ k + suc w = omega arith in
@@ -185,11 +153,7 @@ pub states_read : (copies_at : ℕ → ℕ) (us : List ArcUnit) (i : ℕ) (u : A
     ≡ beq (slice_index_or us i u).left.plus (first_below m (k + copies_at (slice_index_or us i u).left.node))
     ∷ states_told copies_at (drop (i + 1) us) (marks_from (k + width_of_unit copies_at (slice_index_or us i u)) n
     (skip_below (k + width_of_unit copies_at (slice_index_or us i u)) m))
-states_read copies_at us i u t n k high m l long le increasing = rw (
-  drop_more us i u l,
-  state_read copies_at (slice_index_or us i u).left t k high m le increasing,
-  (marks_past (width_of_unit copies_at (slice_index_or us i u)) n t k high m long increasing).0,
-) refl
+states_read copies_at us i u t n k high m l long le increasing = search (rules, drop_more, state_read, marks_past)
 
 -- The first end's copies are among a unit's edges.
 pub count_in_width : (copies_at : ℕ → ℕ) (left : End) (right : Option End)
@@ -205,12 +169,10 @@ widths_links copies_at b (u ∷ us) = simp length-append
 
 pub widths_low : (nodes : ℕ) (copies_at : ℕ → ℕ) (lone : Bool) (us : List ArcUnit)
     → count (width_of_unit copies_at) us ≤ length (graph_by nodes copies_at lone us).edges
-widths_low nodes copies_at lone us =
-    simp length-append (omega (arith, widths_links copies_at (count_below copies_at nodes) us))
+widths_low nodes copies_at lone us = search (rules, length-append, widths_links)
 
 -- The lengths by lows and caps are those with so many units on.
 pub lengths_is : (step : ℕ) (arcs : List Arc) (xs : List ℕ) (ons : List Bool) → lengths_by step (arcwise
     (low step) arcs xs) (arcwise (cap step) arcs xs) ons ≡ lengths_on step arcs xs (steps_told step arcs xs ons)
-lengths_is step (a ∷ arcs) (x ∷ xs) ons = ap (λ ys. (low step a x + trues (take (cap step a x) ons) * step) ∷ ys)
-    (lengths_is step arcs xs (drop (cap step a x) ons))
+lengths_is step (a ∷ arcs) (x ∷ xs) ons = search (rules, lengths_is step arcs xs (drop (cap step a x) ons))
 lengths_is step _ _ ons = refl

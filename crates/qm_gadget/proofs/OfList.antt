@@ -1,18 +1,18 @@
 -- What is made of each arc and its entry, at one place.
-use Rattle.std.proofs.Common.{◌≡◌, ℕ, zero, suc, ◌+◌, ◌<◌, List, [], ◌∷◌, ◌++◌, length, take, get_or, refl, sym, ◌∙◌}
-use Rattle.std.proofs.Common.{ap, arith, ◌-◌, ◌*◌, ◌^◌, ◌≤◌, inl, inr, ◌%◌, ◌==◌, Bool, true, false}
+use Rattle.std.proofs.Common.{rules, ◌≡◌, ℕ, zero, suc, ◌+◌, ◌<◌, List, [], ◌∷◌, ◌++◌, length, take, get_or, refl, sym}
+use Rattle.std.proofs.Common.{◌∙◌, ap, arith, ◌-◌, ◌*◌, ◌^◌, ◌≤◌, inl, inr, Bool, true, false}
 use Rattle.std.proofs.{lemmas.List.get_or_default, lemmas.List.get_or_past, Math.Nat.mul-le-mul, lemmas.Bool.cases_lt}
 use Rattle.std.proofs.{lemmas.List.Elements.All-from_recursion, lemmas.List.Elements.recursion_from_All}
 use Rattle.std.specs.Prelude.{unsigned_abs, slice_index}
 use Rattle.def_flow.specs.Network.{arc_at, EndsBelow, Network, IsWithinBounds, tangle_number}
-use Rattle.def_flow.specs.Units.{arcwise, low, cap, units, active, units_over, states_over, states, rim_active}
+use Rattle.def_flow.specs.Units.{arcwise, low, cap, units, active, units_over, states_over}
 use Rattle.def_flow.specs.MatchingGraph.{graph_by, graph_of_units, matching_graph, first_fresh, unit_size, rim}
 use Rattle.def_flow.specs.MatchingGraph.{lone_vertex}
 use Rattle.def_flow.specs.{declared.net.Arc.Arc, Admissible.IsAdmissible, Admissible.entries, Admissible.AreNetLengths}
 use Rattle.def_flow.specs.{declared.units.ArcUnit.ArcUnit, Gadget.caps, Gadget.lows}
 use Rattle.def_matching.specs.Matching.{WeightedGraph, IsCheap, IsSmallGraph, edge_at}
 use Rattle.qm_gadget.specs.Ready.{graph_by_lows, IsReady, IsPlan, own_states as states_of_caps, marks_over}
-use Rattle.qm_gadget.specs.{Layout.copies_in, Layout.AreAtNodes, declared.plan.Plan.Plan, Marked.rim_by}
+use Rattle.qm_gadget.specs.{Layout.copies_in, declared.plan.Plan.Plan, Marked.rim_by}
 use Rattle.gadget_laws.specs.{Marks.places, Marks.states_marks, Marks.rim_marks, Marks.rim_states, Box.ups}
 use Rattle.gadget_laws.specs.{Box.matching_told}
 use Rattle.def_math.specs.Counts.{count, count_below}
@@ -32,9 +32,7 @@ pub arcwise_more : (f : Arc → ℕ → ℕ) (arcs : List Arc) (xs : List ℕ) (
     → arcwise f (take (k + 1) arcs) (take (k + 1) xs) ≡ arcwise f (take k arcs) (take k xs) ++ f (arc_at arcs k)
     (get_or xs k 0) ∷ []
 arcwise_more f (a ∷ arcs) (x ∷ xs) zero same l = refl
-arcwise_more f (a ∷ arcs) (x ∷ xs) (suc k) same l =
-    let past : suc k + 1 ≡ suc (k + 1) = omega arith in
-    rw past (ap (λ ys. f a x ∷ ys) (arcwise_more f arcs xs k (omega arith) (omega arith)))
+arcwise_more f (a ∷ arcs) (x ∷ xs) (suc k) same l = search (rules, arcwise_more f arcs xs k (omega arith) (omega arith))
 arcwise_more f _ _ k same l = absurd (omega arith)
 
 -- One entry more, read at an arc of the list.
@@ -108,10 +106,7 @@ ups_length step (l ∷ ls) (y ∷ ys) same = ap suc (ups_length step ls ys (omeg
 -- Marks by lows and caps are those of the matching that is told.
 pub marks_over_is : (net : Network) (step : ℕ) (xs js : List ℕ)
     → places 0 (marks_over net step (lows net step xs) (caps net step xs) js) ≡ matching_told net step xs js
-marks_over_is net step xs js =
-    let us = units net step net.arcs xs in
-    ap (λ os. places 0 (states_marks net.nodes (λ v. active v us os) (rim_active us os % 2 == 1) us
-    (states step net.arcs xs js))) (own_states net step xs)
+marks_over_is net step xs js = search (rules, own_states)
 
 -- No more units are at the rim than there are.
 pub rim_states_few : (us : List ArcUnit) (ons : List Bool) → length (rim_states us ons) ≤ length us
@@ -140,19 +135,11 @@ module _ {net : Network} {step : ℕ} {ls cs : List ℕ} {p : Plan} (ready : IsR
       ≡ graph_by_lows net step ls cs
   plan_graph = rw (plan_counts, plan.counts.count, plan.lone, plan.units) refl
 
-  -- A plan's units have their ends at the nodes that it counts.
-  pub plan_at : AreAtNodes (length p.counts.items) p.units.items
-  plan_at = rw (plan.counts.count, plan.units) ready.at
-
   -- The graph of a plan is small.
   pub plan_small : (graph_by_lows net step ls cs).n ≤ 2 ^ 25
       → first_fresh (length p.counts.items) (copies_in p.counts.items) p.lone p.units.items + 2 * length
       (rim (count_below (copies_in p.counts.items) (length p.counts.items)) p.units.items) < 2 ^ 26
-  plan_small small =
-      let n : first_fresh (length p.counts.items) (copies_in p.counts.items) p.lone p.units.items
-      + 2 * (length (rim (count_below (copies_in p.counts.items) (length p.counts.items)) p.units.items) - 1)
-      ≡ (graph_by_lows net step ls cs).n = ap (λ (g : WeightedGraph). g.n) plan_graph in
-      omega arith
+  plan_small small = search (rules, plan_graph)
 
   -- The marks of a plan.
   pub plan_marks : (js : List ℕ) → states_marks (length p.counts.items) (copies_in p.counts.items) p.lone p.units.items
@@ -161,15 +148,4 @@ module _ {net : Network} {step : ℕ} {ls cs : List ℕ} {p : Plan} (ready : IsR
 
   -- A plan has few units, and few copies of each node.
   pub plan_few : (length p.units.items ≤ 2 ^ 25) × ((v : ℕ) → slice_index p.counts.items v ≤ 2 ^ 27)
-  plan_few = (
-    omega (arith, ap length plan.units, ready.few),
-    λ v. elim (cases_lt v net.nodes) [
-      | inl l ↦ omega (
-        arith,
-        plan.counts.each v l,
-        active_low v (units_over net step net.arcs ls cs) (states_of_caps cs),
-        ready.few,
-      )
-      | inr h ↦ omega (arith, get_or_past p.counts.items v 0 (omega (arith, plan.counts.count)))
-    ],
-  )
+  plan_few = search (rules, active_low, get_or_past)

@@ -1,4 +1,5 @@
 -- What a gadget's matchings and lists tell of each other.
+use Rattle.std.proofs.Common.{rules}
 use Rattle.std.proofs.Common.{◌≡◌, ℕ, ◌%◌, ◌^◌, ◌≤◌, ◌==◌, Bool, List, length, pos, ◌-ℤ◌, ◌≤ℤ◌, sym, ◌∙◌, ap, arith}
 use Rattle.def_flow.specs.Units.{units, states_at, active, rim_active, units_over, states_over}
 use Rattle.def_flow.specs.{Network.Network, Network.IsWithinBounds, Admissible.IsAdmissible, Admissible.deviation}
@@ -34,9 +35,7 @@ module _ {net : Network} {g : Gadget} (bounds : IsWithinBounds net) (of : IsGadg
 
   -- A gadget's graph has few edges.
   pub gadget_edges : length g.graph.edges.items ≤ 2 ^ 26
-  gadget_edges =
-      let law = size_law net g.step of.x bounds of.lengths.count of.admissible in
-      omega (arith, law.1, of.tangle, ap (λ (h : WeightedGraph). length h.edges) of.graphs)
+  gadget_edges = search (rules, size_law)
 
   -- A list in the box has few marks.
   pub gadget_short : (ys : List ℕ) → IsInBox g.step g.low.items g.cap.items ys
@@ -56,11 +55,7 @@ module _ {net : Network} {g : Gadget} (bounds : IsWithinBounds net) (of : IsGadg
 
   -- The units' edges are among the graph's.
   pub gadget_wide : widths_over net g.step g.low.items g.cap.items ≤ length g.graph.edges.items
-  gadget_wide = omega (
-    arith,
-    widths_low net.nodes (λ v. active v over ons) (rim_active over ons % 2 == 1) over,
-    ap (λ (h : WeightedGraph). length h.edges) (own_is ∙ sym of.graphs),
-  )
+  gadget_wide = search (rules, widths_low, own_is)
 
   -- The matching that a list in the box tells.
   pub gadget_matching : (ys : List ℕ) → IsAdmissible net (entries ys) → IsInBox g.step g.low.items g.cap.items ys

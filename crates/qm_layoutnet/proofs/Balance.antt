@@ -1,7 +1,7 @@
 -- Balance at the nodes of the network of a layout is that opposite sides have equal sums.
-use Rattle.std.proofs.Common.{◌≡◌, ◌⊎◌, ℕ, ◌+◌, ◌*◌, ◌/◌, ◌%◌, ◌<◌, ◌≤◌, Bool, true, false, cond, not, ◌&&◌, ◌==◌, ℤ}
-use Rattle.std.proofs.Common.{pos, ◌+ℤ◌, List, [], ◌∷◌, length, Some, None, refl, sym, ap, ◌∙◌, subst, inl, inr, arith}
-use Rattle.std.proofs.lemmas.Bool.{and_parts, cases_Bool, cases_eq, cases_lt, eq-eqb, eqb-true, ne_eqb, false≢true}
+use Rattle.std.proofs.Common.{rules, ◌≡◌, ◌⊎◌, ℕ, ◌+◌, ◌*◌, ◌/◌, ◌%◌, ◌<◌, ◌≤◌, Bool, true, false, cond, not, ℤ, pos}
+use Rattle.std.proofs.Common.{◌+ℤ◌, List, [], ◌∷◌, length, Some, None, refl, sym, ap, ◌∙◌, subst, inl, inr, arith}
+use Rattle.std.proofs.lemmas.Bool.{cases_eq, cases_lt, ne_eqb, false≢true}
 use Rattle.std.proofs.{lemmas.Int.ints, lemmas.List.ext_get_or}
 use Rattle.sum_laws.proofs.Sums.{total_below_none, total_below_one, total_below_same}
 use Rattle.def_flow.specs.{Admissible.is_on_side, Admissible.side_sum, Admissible.IsBalanced, Network.Network}
@@ -15,34 +15,14 @@ use Rattle.{std.specs.Prelude.option_to_list, def_math.specs.Sums.total, def_mat
 
 -- A side is on its own side of its own node, and no other side of any patch is there.
 on_itself : (p : ℕ) (s : Way) → is_on_side (node_of p s) (is_plus s) (end_at p s) ≡ true
-on_itself p south = rw (eq-eqb (2 * p) _ refl) refl
-on_itself p east = rw (eq-eqb (2 * p + 1) _ refl) refl
-on_itself p north = rw (eq-eqb (2 * p) _ refl) refl
-on_itself p west = rw (eq-eqb (2 * p + 1) _ refl) refl
+on_itself p s = search rules
 
 on_is : (p q : ℕ) (s w : Way) → is_on_side (node_of p s) (is_plus s) (end_at q w) ≡ true → (q ≡ p) × (w ≡ s)
-on_is p q s w on =
-    let parts = and_parts (node_of q w == node_of p s) _ on in
-    by_side s w (eqb-true (node_of q w) (node_of p s) parts.0) parts.1
-  where
-    by_side : (s w : Way) → node_of q w ≡ node_of p s → cond (is_plus s) (is_plus w) (not (is_plus w)) ≡ true
-        → (q ≡ p) × (w ≡ s)
-    by_side south south n b = (omega arith, refl)
-    by_side east east n b = (omega arith, refl)
-    by_side north north n b = (omega arith, refl)
-    by_side west west n b = (omega arith, refl)
-    by_side south north n b = absurd (false≢true b)
-    by_side north south n b = absurd (false≢true b)
-    by_side east west n b = absurd (false≢true b)
-    by_side west east n b = absurd (false≢true b)
-    by_side _ _ n b = absurd (omega arith)
+on_is p q s w on = search rules
 
 -- The nodes of a patch are below twice the number of patches.
 pub node_low : (q : ℕ) (s : Way) (patches : ℕ) → q < patches → node_of q s < 2 * patches
-node_low q south n h = omega arith
-node_low q east n h = omega arith
-node_low q north n h = omega arith
-node_low q west n h = omega arith
+node_low q s h1 = search rules
 
 -- The slots of an arc: the one of its own direction, and the other one, if there is one.
 pub record HasSlots (l : Gluing) (k : ℕ) : Type 0 where
@@ -78,20 +58,15 @@ module _ {l : Gluing} {old wish floor : Lengths} {set : Settings} {net : Network
     (is : IsNetOf l old wish set floor net) where
   pub left_at : {a : ℕ} {w : Slot} → IsSlot l w → use_of l w ≡ use_of_arc a true
       → (arc_at net.arcs a).left ≡ end_at w.patch w.side
-  left_at {a} {w} slot e = subst (λ (u : SideArc). (arc_at net.arcs u.arc).left ≡ end_at w.patch w.side) e
-      (is.left w slot (ap (λ (u : SideArc). u.forward) e))
+  left_at {a} {w} slot e = search rules
 
   pub right_at : {a : ℕ} {w : Slot} → IsSlot l w → use_of l w ≡ use_of_arc a false
       → (arc_at net.arcs a).right ≡ Some (end_at w.patch w.side)
-  right_at {a} {w} slot e = subst (λ (u : SideArc). (arc_at net.arcs u.arc).right ≡ Some (end_at w.patch w.side)) e
-      (is.right w slot (ap (λ (u : SideArc). u.forward) e))
+  right_at {a} {w} slot e = search rules
 
   pub alone_at : (a : ℕ) → a < l.arcs → ((w : Slot) → IsSlot l w → use_of l w ≡ use_of_arc a false → ⊥)
       → (arc_at net.arcs a).right ≡ None
-  alone_at a low never = is.alone a low (λ w slot e. elim (cases_Bool _) [
-    | inl f ↦ f
-    | inr f ↦ absurd (never w slot (λ i. use_of_arc (e i) (f i)))
-  ])
+  alone_at a low never = search rules
 
   -- What is so of one end and of two ends, however they are used, is so of the ends of an arc.
   pub by_ends : (P : List End → Type 0) → IsSurface l → (k : ℕ) → k < l.arcs
@@ -121,8 +96,7 @@ module _ (l : Gluing) (old wish : Lengths) (set : Settings) (floor : Lengths) (n
   -- Where no slot of the side has the use, that is nothing.
   hits_none : (p : ℕ) (s : Way) (k : ℕ) (forward : Bool)
       → ((j : ℕ) → j < l.many p s → l.use_at p s j ≡ use_of_arc k forward → ⊥) → hits p s k forward ≡ pos 0
-  hits_none p s k forward never = total_below_none (λ j. cond (is_hit k forward (l.use_at p s j)) (x k) (pos 0))
-      (l.many p s) (λ j low. ap (λ (b : Bool). cond b (x k) (pos 0)) (no_hit k forward (l.use_at p s j) (never j low)))
+  hits_none p s k forward never = search (rules, total_below_none)
 
   -- Where slot w has it, that is the entry of the arc, if w is on the side.
   hits_at : (p : ℕ) (s : Way) (k : ℕ) (forward : Bool) (w : Slot) → p < l.patches → IsSlot l w
@@ -182,8 +156,7 @@ module _ (l : Gluing) (old wish : Lengths) (set : Settings) (floor : Lengths) (n
       )))
     where
       off : (k : ℕ) (w : Slot) → IsSlot l w → cond (is_on_side v plus (end_at w.patch w.side)) (x k) (pos 0) ≡ pos 0
-      off k w slot = ap (λ (b : Bool). cond (b && cond plus (is_plus w.side) (not (is_plus w.side))) (x k) (pos 0))
-          (ne_eqb (node_of w.patch w.side) v (λ e. omega (arith, e, node_low w.patch w.side l.patches slot.patch_low)))
+      off k w slot = search (rules, ne_eqb)
 
   balanced : AreOpposite l x → IsBalanced net.arcs x
   balanced equal v = elim (cases_lt v (2 * l.patches)) [
@@ -205,13 +178,8 @@ module _ (l : Gluing) (old wish : Lengths) (set : Settings) (floor : Lengths) (n
 
 pub balance_law : BalanceLaw
 balance_law l old wish set floor net laid is x =
-    let at = λ (p : ℕ) (s : Way) (low : p < l.patches). side_is l old wish set floor net laid is x p s low in (
-      λ balanced. record {
-        across = λ p low. sym (at p south low) ∙ (balanced _ ∙ at p north low);
-        upright = λ p low. sym (at p east low) ∙ (balanced _ ∙ at p west low);
-      },
-      balanced l old wish set floor net laid is x,
-    )
+    let side = side_is l old wish set floor net laid is x in
+    search (rules, side, balanced l old wish set floor net laid is x)
 
 -- A layout has one network.
 

@@ -1,31 +1,28 @@
 -- Lengths are equal on opposite sides exactly where their whole numbers are.
-use Rattle.std.proofs.Common.{◌≡◌, ℕ, pos, sym, ap, ◌∙◌, arith, zero, suc, ◌*◌, ◌^◌, ◌<◌, ◌≤◌, Bool, cond, ◌==◌, List}
-use Rattle.std.proofs.Common.{[], ◌∷◌, length, Option, Some, None, refl, inl, inr, true, map, ◌&&◌, ℤ}
-use Rattle.std.proofs.lemmas.Bool.{cases_eq, eq-eqb, ne_eqb, le-leb, lt-ltb}
+use Rattle.std.proofs.Common.{rules, ◌≡◌, ℕ, pos, sym, ap, ◌∙◌, arith, zero, suc, ◌*◌, ◌^◌, ◌<◌, ◌≤◌, Bool, cond, ◌==◌}
+use Rattle.std.proofs.Common.{List, [], ◌∷◌, length, Option, Some, None, refl, true, map, ◌&&◌, ℤ}
+use Rattle.std.proofs.lemmas.Bool.{cases_eq, lt-ltb}
 use Rattle.std.proofs.{lemmas.Int.ints, Math.Nat.mul-le-mul_right, lemmas.List.length-map}
 use Rattle.std.specs.{Prelude.option_to_list, Prelude.nat_lt, List.list_all}
-use Rattle.sum_laws.proofs.Sums.{count_below_total, count_below_le, count_below_none, count_below_sum}
-use Rattle.sum_laws.proofs.Sums.{count_below_times, count_below_prefix, count_below_ones, count_below_same}
-use Rattle.sum_laws.proofs.Sums.{total_below_same}
-use Rattle.sum_laws.proofs.Tests.{once_at_most}
-use Rattle.def_layout.specs.Gluings.{Way, south, east, north, west, Gluing, Slot, IsSlot}
-use Rattle.def_layout.specs.{Lengths.size, Lengths.Lengths, Lengths.AreLengths, declared.tmesh.TArc.TArc, Arcs.path}
-use Rattle.def_layout.specs.{Arcs.long_at, Surfaces.IsSurface}
+use Rattle.sum_laws.proofs.{Sums.count_below_total, Sums.count_below_le, Sums.count_below_none, Sums.count_below_sum}
+use Rattle.sum_laws.proofs.{Sums.count_below_times, Sums.count_below_prefix, Sums.count_below_ones}
+use Rattle.sum_laws.proofs.{Sums.count_below_same, Sums.total_below_same, Tests.once_at_most}
+use Rattle.def_layout.specs.{Gluings.Way, Gluings.Gluing, Gluings.Slot, Gluings.IsSlot, Lengths.size, Lengths.Lengths}
+use Rattle.def_layout.specs.{Lengths.AreLengths, declared.tmesh.TArc.TArc, Arcs.path, Arcs.long_at, Surfaces.IsSurface}
 use Rattle.def_layoutnet.specs.{LayoutNetLaws.sum_along, LayoutNetLaws.OppositeLaw, LayoutNet.node_of}
 use Rattle.def_layoutnet.specs.{LayoutNet.weight_of, LayoutNet.AreSettings, LayoutNet.IsNetOf}
-use Rattle.def_math.specs.{Counts.count, Counts.count_below, Sums.total, Sums.total_below}
+use Rattle.def_math.specs.{Counts.count, Counts.count_below}
 use Rattle.def_flow.specs.Network.{degree, ends, tangle_number, Network, arc_at, is_bounded, IsWithinBounds}
-use Rattle.def_flow.specs.declared.limits.TheConstants.{MAX_FLOOR, MAX_OLD, MAX_WEIGHT}
-use Rattle.def_flow.specs.{declared.net.Arc.Arc, declared.net.End.End, Admissible.IsEven, Admissible.is_on_side}
-use Rattle.def_flow.specs.{Admissible.side_sum, declared.net.Settings.Settings, declared.net.Weight.Weight}
-use Rattle.def_flow.specs.{declared.net.Weight.TheVariants.Plain, declared.net.Weight.TheVariants.Length}
+use Rattle.def_flow.specs.declared.limits.TheConstants.{MAX_FLOOR, MAX_WEIGHT}
+use Rattle.def_flow.specs.{declared.net.Arc.Arc, declared.net.End.End, Admissible.IsEven, Admissible.side_sum}
+use Rattle.def_flow.specs.{declared.net.Settings.Settings, declared.net.Weight.Weight}
 use Rattle.qm_layoutnet.specs.Ends.{arc_of, open_arc, AreEnds, PatchesBelow}
 use Rattle.qm_layoutnet.proofs.Balance.{balance_law, by_ends, node_low}
 
 module _ (l : Gluing) (x : Lengths) (p : ℕ) where
   -- The size of a side is the sum of its whole numbers.
   pub size_is : (s : Way) → pos (size l x p s) ≡ sum_along l (λ arc. pos (x arc)) p s
-  size_is s = count_below_total (λ k. x (l.use_at p s k).arc) (l.many p s)
+  size_is s = search (rules, count_below_total)
 
   same : (s t : Way) → (size l x p s ≡ size l x p t
       → sum_along l (λ arc. pos (x arc)) p s ≡ sum_along l (λ arc. pos (x arc)) p t) × (sum_along l
@@ -33,40 +30,19 @@ module _ (l : Gluing) (x : Lengths) (p : ℕ) where
   same s t = (λ e. sym (size_is s) ∙ (ap pos e ∙ size_is t), λ e. omega (arith, ints, size_is s, size_is t, e))
 
 pub opposite_law : OppositeLaw
-opposite_law l x some = (
-  λ is. record {
-    across = λ p low. (same l x p south north).0 (sym (is.across p low));
-    upright = λ p low. (same l x p east west).0 (is.upright p low);
-  },
-  λ is. record {
-    some = some;
-    across = λ p low. (same l x p north south).1 (sym (is.across p low));
-    upright = λ p low. (same l x p east west).1 (is.upright p low);
-  },
-)
+opposite_law l x some = search (rules, same)
 
 -- The tangle number of few arcs is below 2^64.
 
 -- A term is at most the sum.
 pub term_low : (f : ℕ → ℕ) (n k : ℕ) → k < n → f k ≤ count_below f n
 term_low f zero k l = absurd (omega arith)
-term_low f (suc n) k l = elim (cases_eq k n) [
-  | inl e ↦ omega (arith, ap f e)
-  | inr ne ↦ omega (arith, term_low f n k (omega arith))
-]
+term_low f (suc n) k l = search (rules, cases_eq k n, term_low f n k)
 
 -- A number below a bound is one of them at most.
 one_below : (u n : ℕ) → count_below (λ v. cond (u == v) 1 0) n ≤ 1
 one_below u zero = omega arith
-one_below u (suc n) = elim (cases_eq u n) [
-  | inl e ↦
-      let none : count_below (λ v. cond (u == v) 1 0) n ≡ 0 = count_below_none (λ v. cond (u == v) 1 0) n
-      (λ v l. ap (λ (b : Bool). cond b 1 0) (ne_eqb u v (λ s. omega (arith, s, e)))) in
-      let here : ◌≡◌ {A = ℕ} (cond (u == n) 1 0) 1 = ap (λ (b : Bool). cond b 1 0) (eq-eqb u n e) in
-      omega (arith, none, here)
-  | inr ne ↦ let off : ◌≡◌ {A = ℕ} (cond (u == n) 1 0) 0 = ap (λ (b : Bool). cond b 1 0) (ne_eqb u n ne) in
-      omega (arith, one_below u n, off)
-]
+one_below u (suc n) = search (rules, count_below_none, one_below u n)
 
 -- There are as many ends at the nodes below a bound, and at one node, as there are ends, at most.
 ends_few : (es : List End) (n : ℕ) → count_below (λ v. count (λ e. cond (e.node == v) 1 0) es) n ≤ length es
@@ -136,15 +112,7 @@ open_at set (r ∷ rs) (suc a) l = open_at set rs a (omega arith)
 
 pub ends_begin : (l : Gluing) (set : Settings) (runs : List TArc) → length (map path runs) ≡ l.arcs
     → AreEnds l (long_at (map path runs)) set (PatchesBelow 0) (map (open_arc set) runs)
-ends_begin l set runs long = record {
-  long = length-map runs _ ∙ sym (length-map runs path) ∙ long;
-  olds = λ a low. ap (λ (x : Arc). x.old) (at a low);
-  weights = λ a low. ap (λ (x : Arc). x.weight) (at a low);
-  floors = λ a low. ap (λ (x : Arc). x.floor) (at a low);
-  left = λ v slot none f. absurd (omega arith);
-  right = λ v slot none f. absurd (omega arith);
-  alone = λ a low only. ap (λ (x : Arc). x.right) (at a low);
-}
+ends_begin l set runs long = search (rules, length-map, at)
   where
     at : (a : ℕ) → a < l.arcs → arc_at (map (open_arc set) runs) a ≡ arc_of set (long_at (map path runs) a)
     at a low = open_at set runs a (omega (arith, length-map runs path))
@@ -152,18 +120,7 @@ ends_begin l set runs long = record {
 -- When all slots are done, these are the arcs of the network.
 pub net_is : (l : Gluing) (old : Lengths) (set : Settings) (net : Network) → net.nodes ≡ 2 * l.patches → net.p ≡ set.p
     → net.q ≡ set.q → AreEnds l old set (PatchesBelow l.patches) net.arcs → IsNetOf l old old set (λ a. set.floor) net
-net_is l old set net nodes p q are = record {
-  nodes = nodes;
-  p = p;
-  q = q;
-  long = are.long;
-  olds = are.olds;
-  weights = are.weights;
-  floors = are.floors;
-  left = λ w slot f. are.left w slot slot.patch_low f;
-  right = λ w slot f. are.right w slot slot.patch_low f;
-  alone = λ a low only. are.alone a low (λ w slot d e. only w slot e);
-}
+net_is l old set net nodes p q are = search rules
 
 module _ {l : Gluing} {x floor : Lengths} {set : Settings} {net : Network} (laid : IsSurface l) (len : AreLengths l x)
     (few : count_below x l.arcs ≤ 2 ^ 23) (in_range : AreSettings set)
@@ -191,16 +148,12 @@ module _ {l : Gluing} {x floor : Lengths} {set : Settings} {net : Network} (laid
       count_at (λ a. a.old) net.arcs ∙ (count_below_same (λ k. (arc_at net.arcs k).old) x
           (length net.arcs) old_at ∙ ap (count_below x) is.long),
     );
-    balanced = (balance_law l x x set floor net laid is (λ k. pos (arc_at net.arcs k).old)).1 (record {
-      across = λ p low. along_is p south low ∙ (ap pos (sym (len.across p low)) ∙ sym (along_is p north low));
-      upright = λ p low. along_is p east low ∙ (ap pos (len.upright p low) ∙ sym (along_is p west low));
-    });
+    balanced = search (rules, balance_law l x x set floor net laid is (λ k. pos (arc_at net.arcs k).old), along_is);
   }
 
   -- Weights are from 1 on.
   weight_low : (w : Weight) (n : ℕ) → 1 ≤ n → (1 ≤ weight_of w n) × (weight_of w n ≤ MAX_WEIGHT)
-  weight_low Plain n h = (omega arith, omega arith)
-  weight_low Length n h = (omega arith, omega arith)
+  weight_low w n h = search rules
 
   ends_low : (k : ℕ) → k < l.arcs → list_all (λ (e : End). nat_lt e.node net.nodes) (ends (arc_at net.arcs k)) ≡ true
   ends_low k low = by_ends is (λ es. list_all (λ (e : End). nat_lt e.node net.nodes) es ≡ true) laid k low
@@ -214,54 +167,29 @@ module _ {l : Gluing} {x floor : Lengths} {set : Settings} {net : Network} (laid
       let k_low : k < l.arcs = omega (arith, is.long) in
       let a = arc_at net.arcs k in
       let w = weight_low set.weight (x k) (len.some k k_low) in
-      rw (
-        le-leb 1 a.weight (omega (arith, is.weights k k_low, w.0)),
-        le-leb a.weight MAX_WEIGHT (omega (arith, is.weights k k_low, w.1)),
-        le-leb a.old MAX_OLD (omega (arith, old_at k low, term_low x l.arcs k k_low, few)),
-        le-leb 1 a.floor (omega (arith, is.floors k k_low, (floors k k_low).0)),
-        le-leb a.floor MAX_FLOOR (omega (arith, is.floors k k_low, (floors k k_low).1)),
-      ) (ends_low k k_low)
+      let f = floors k k_low in
+      search (rules, is.weights k k_low, is.floors k k_low, old_at k low, term_low x l.arcs k k_low, ends_low k k_low)
 
   -- It is even and within bounds, and its tangle number fits.
   pub all_is : IsEven net × IsWithinBounds net × (tangle_number net < 2 ^ 64)
-  all_is = (
-    even,
-    record {
-      p_low = omega (arith, is.p, in_range.p_low);
-      p_high = omega (arith, is.p, in_range.p_high);
-      q_low = omega (arith, is.q, in_range.q_low);
-      q_high = omega (arith, is.q, in_range.q_high);
-      arcs = all_pass (is_bounded net.nodes) net.arcs bounded;
-      few = omega (arith, is.long, arcs_few);
-    },
-    tangle_small net (omega (arith, is.long, arcs_few)),
-  )
+  all_is = search (rules, even, all_pass, bounded, arcs_few, tangle_small)
 
 -- Two networks whose arcs have the same ends have the same sums at their nodes, and are equally tangled.
 
 -- Lists whose arcs are alike in something count it alike.
 pub count_same : (f : Arc → ℕ) (xs ys : List Arc) → length xs ≡ length ys
     → ((k : ℕ) → k < length ys → f (arc_at xs k) ≡ f (arc_at ys k)) → count f xs ≡ count f ys
-count_same f xs ys long same = count_at f xs ∙ ap (count_below (λ k. f (arc_at xs k))) long
-    ∙ count_below_same (λ k. f (arc_at xs k)) (λ k. f (arc_at ys k)) (length ys) same ∙ sym (count_at f ys)
+count_same f xs ys long same = search (rules, count_at, count_below_same)
 
 module _ (net new : Network) (nodes : new.nodes ≡ net.nodes) (long : length new.arcs ≡ length net.arcs)
     (same : (k : ℕ) → k < length net.arcs → ends (arc_at new.arcs k) ≡ ends (arc_at net.arcs k)) where
   degree_same : (v : ℕ) → degree new.arcs v ≡ degree net.arcs v
-  degree_same v = count_same (λ (a : Arc). count (λ (e : End). cond (e.node == v) 1 0) (ends a)) new.arcs net.arcs long
-      (λ k l. ap (λ (es : List End). count (λ (e : End). cond (e.node == v) 1 0) es) (same k l))
+  degree_same v = search (rules, count_same)
 
   pub tangle_same : tangle_number new ≡ tangle_number net
-  tangle_same = ap (count_below (λ v. 16 * (degree new.arcs v * degree new.arcs v))) nodes ∙ count_below_same
-      (λ v. 16 * (degree new.arcs v * degree new.arcs v)) (λ v. 16 * (degree net.arcs v * degree net.arcs v)) net.nodes
-      (λ v l. ap (λ (d : ℕ). 16 * (d * d)) (degree_same v))
+  tangle_same = search (rules, degree_same)
 
   -- Equal entries have equal sums.
   pub sums_same : (x y : ℕ → ℤ) (plus : Bool) (v : ℕ) → ((k : ℕ) → k < length net.arcs → x k ≡ y k)
       → side_sum new.arcs x plus v ≡ side_sum net.arcs y plus v
-  sums_same x y plus v equal = ap (total_below (λ k. put (x k) (ends (arc_at new.arcs k)))) long ∙ total_below_same
-      (λ k. put (x k) (ends (arc_at new.arcs k))) (λ k. put (y k) (ends (arc_at net.arcs k))) (length net.arcs)
-      (λ k l. ap (λ z. put z (ends (arc_at new.arcs k))) (equal k l) ∙ ap (put (y k)) (same k l))
-    where
-      put : (z : ℤ) (es : List End) → ℤ
-      put z es = total (λ (e : End). cond (is_on_side v plus e) z (pos 0)) es
+  sums_same x y plus v equal = search (rules, total_below_same)

@@ -1,10 +1,9 @@
 -- How often a side uses an arc in one direction, and the sum along a side as a sum over all arcs.
-use Rattle.std.proofs.Common.{◌≡◌, ℕ, zero, suc, ◌<◌, Bool, true, false, cond, not, ◌&&◌, ◌==◌, ℤ, pos, ◌+ℤ◌, refl, sym}
-use Rattle.std.proofs.Common.{ap, ◌∙◌, inl, inr, arith, ◌≢◌, ◌⊎◌, ◌+◌, ◌≤◌, List, [], ◌∷◌, length, get_or, Option, Some}
-use Rattle.std.proofs.Common.{subst}
-use Rattle.std.proofs.lemmas.Bool.{cases_Bool, eq-eqb, eqb-true, ne_eqb, false≢true, and_parts, cases_eq}
-use Rattle.std.proofs.{lemmas.Int.ints, lemmas.List.get_or-set_same, lemmas.List.get_or-set_other}
-use Rattle.std.proofs.{lemmas.List.length-set}
+use Rattle.std.proofs.Common.{rules, ◌≡◌, ℕ, zero, suc, ◌<◌, Bool, true, false, cond, not, ◌&&◌, ◌==◌, ℤ, pos, ◌+ℤ◌}
+use Rattle.std.proofs.Common.{refl, sym, ap, ◌∙◌, inl, inr, arith, ◌≢◌, ◌⊎◌, ◌+◌, ◌≤◌, List, [], ◌∷◌, length, get_or}
+use Rattle.std.proofs.Common.{Option, Some, subst}
+use Rattle.std.proofs.{lemmas.Bool.eq-eqb, lemmas.Bool.ne_eqb, lemmas.Bool.cases_eq, lemmas.Int.ints}
+use Rattle.std.proofs.{lemmas.List.get_or-set_same, lemmas.List.get_or-set_other, lemmas.List.length-set}
 use Rattle.sum_laws.proofs.Sums.{total_below_none, total_below_one, total_below_same, total_below_sum}
 use Rattle.def_layout.specs.Gluings.{Way, south, east, north, west, Gluing, Slot, IsSlot, use_of}
 use Rattle.def_layout.specs.{declared.tmesh.SideArc.SideArc, Surfaces.IsSurface, Lengths.Lengths}
@@ -31,19 +30,10 @@ pub hit_of : (k : ℕ) (forward : Bool) → is_hit k forward (use_of_arc k forwa
 hit_of k true = ap (λ (b : Bool). b && true) (eq-eqb k k refl)
 hit_of k false = ap (λ (b : Bool). b && true) (eq-eqb k k refl)
 
-same_way : (forward other : Bool) → cond forward other (not other) ≡ true → other ≡ forward
-same_way true true e = refl
-same_way false false e = refl
-same_way _ _ e = absurd (false≢true e)
-
 -- Any other use of it is none.
 pub no_hit : (k : ℕ) (forward : Bool) (used : SideArc) → (used ≡ use_of_arc k forward → ⊥) → is_hit k forward used
     ≡ false
-no_hit k forward used never = elim (cases_Bool _) [
-  | inl on ↦ let p = and_parts (used.arc == k) _ on in absurd (never (λ i. use_of_arc (eqb-true used.arc k p.0 i)
-      (same_way forward used.forward p.1 i)))
-  | inr off ↦ off
-]
+no_hit k forward used never = search rules
 
 -- What a use puts on arc k, in either direction.
 abbrev pub put : (x : ℕ → ℤ) (used : SideArc) (k : ℕ) → ℤ
@@ -54,8 +44,7 @@ pub put_once : (x : ℕ → ℤ) (n : ℕ) (used : SideArc) → used.arc < n →
 put_once x n used low = total_below_one (put x used) n used.arc low other ∙ here used.forward
   where
     here : (forward : Bool) → put x (use_of_arc used.arc forward) used.arc ≡ x used.arc
-    here true = let e = eq-eqb used.arc used.arc refl in rw e (omega (arith, ints))
-    here false = let e = eq-eqb used.arc used.arc refl in rw e (omega (arith, ints))
+    here forward = grind (arith, ints)
 
     other : (k : ℕ) → k < n → (k ≡ used.arc → ⊥) → put x used k ≡ pos 0
     other k l ne = rw (ne_eqb used.arc k (λ e. ne (sym e))) refl
@@ -88,10 +77,7 @@ there_changed false end a = refl
 -- A use in the other direction changes the other end.
 way_or_stays : (way other : Bool) (end : End) (a : Arc) → (other ≡ way)
     ⊎ (end_on way (with_way other end a) ≡ end_on way a)
-way_or_stays true true end a = inl refl
-way_or_stays true false end a = inr refl
-way_or_stays false true end a = inr refl
-way_or_stays false false end a = inl refl
+way_or_stays way other end = search rules
 
 -- A slot of side s of patch p from its k-th on.
 abbrev SlotsFrom : (p : ℕ) (s : Way) (k : ℕ) (slot : Slot) → Type 0
@@ -189,8 +175,7 @@ module _ (l : Gluing) (old : Lengths) (set : Settings) (laid : IsSurface l) wher
   side_from p s [] k {done} low same many are = same_ends (λ w slot d. inl d) back are
     where
       back : (w : Slot) → IsSlot l w → done w ⊎ SlotsFrom p s k w → done w
-      back w slot (inl d) = d
-      back w slot (inr (e, f, h)) = let less : w.at < l.many p s = rw (e, f) at slot.low in absurd (omega (arith, many))
+      back w slot h = search rules
   side_from p s (u ∷ us) k {done} {arcs} low same many are = same_ends on back (side_from p s us (k + 1) low (λ j d h.
       same (suc j) d (omega arith) ∙ ap (l.use_at p s) (let n : k + suc j ≡ k + 1 + j = omega arith in n)) (omega arith)
       (subst (λ (x : SideArc). AreEnds l old set (λ w. done w ⊎ (w ≡ v)) (with_end (end_at p s) x arcs)) (sym
@@ -201,16 +186,11 @@ module _ (l : Gluing) (old : Lengths) (set : Settings) (laid : IsSurface l) wher
       v = record { patch = p; side = s; at = k }
 
       on : (w : Slot) → IsSlot l w → (done w ⊎ (w ≡ v)) ⊎ SlotsFrom p s (k + 1) w → done w ⊎ SlotsFrom p s k w
-      on w slot (inl (inl d)) = inl d
-      on w slot (inl (inr e)) = rw e (inr (refl, refl, omega arith))
-      on w slot (inr (e, f, h)) = inr (e, f, omega arith)
+      on w slot h = search rules
 
       back : (w : Slot) → IsSlot l w → done w ⊎ SlotsFrom p s k w → (done w ⊎ (w ≡ v)) ⊎ SlotsFrom p s (k + 1) w
       back w slot (inl d) = inl (inl d)
-      back w slot (inr (e, f, h)) = elim (cases_eq w.at k) [
-        | inl at ↦ inl (inr (λ i. record { patch = e i; side = f i; at = at i }))
-        | inr ne ↦ inr (e, f, omega arith)
-      ]
+      back w slot (inr (e, f, h)) = search rules
 
   -- A patch is done.
   pub patch_more : (p : ℕ) (side : Way → List SideArc) (arcs : List Arc) → p < l.patches
@@ -230,7 +210,4 @@ module _ (l : Gluing) (old : Lengths) (set : Settings) (laid : IsSurface l) wher
 
       done : (w : Slot) → w.patch ≡ p → (s : Way) → w.side ≡ s → (((PatchesBelow p w ⊎ SlotsFrom p south 0 w)
           ⊎ SlotsFrom p east 0 w) ⊎ SlotsFrom p north 0 w) ⊎ SlotsFrom p west 0 w
-      done w e south f = inl (inl (inl (inr (e, f, omega arith))))
-      done w e east f = inl (inl (inr (e, f, omega arith)))
-      done w e north f = inl (inr (e, f, omega arith))
-      done w e west f = inr (e, f, omega arith)
+      done w e s f = search rules

@@ -1,7 +1,7 @@
 -- A network with other floors is as even and as tangled as it was, and it is the network of the same layout.
-use Rattle.std.proofs.Common.{◌≡◌, ℕ, ◌*◌, ◌<◌, ◌≤◌, Bool, true, false, ◌&&◌, length, ℤ, pos, ◌-ℤ◌, ◌*ℤ◌, sym, ap, ◌∙◌}
-use Rattle.std.proofs.Common.{List, None, map, refl, subst, leb-true, arith, suc, ◌-◌, [], ◌∷◌, inl, inr}
-use Rattle.std.proofs.lemmas.Bool.{and_parts, le-leb, cases_eq, cond-true, eq-eqb, ne_eqb}
+use Rattle.std.proofs.Common.{rules, ◌≡◌, ℕ, ◌*◌, ◌<◌, ◌≤◌, Bool, true, ◌&&◌, length, ℤ, pos, ◌-ℤ◌, ◌*ℤ◌, sym, ap, ◌∙◌}
+use Rattle.std.proofs.Common.{List, None, map, refl, subst, leb-true, arith, suc, ◌-◌, [], ◌∷◌}
+use Rattle.std.proofs.lemmas.Bool.{and_parts, le-leb, cases_eq, cond-true, eq-eqb}
 use Rattle.std.proofs.lemmas.List.{ext_get_or, get_or-map, length-map}
 use Rattle.std.specs.{Prelude.nat_le, Prelude.nat_lt, Prelude.unsigned_abs, Prelude.◌==◌, List.list_all}
 use Rattle.sum_laws.proofs.Sums.{count_below_same, count_below_lt}
@@ -61,17 +61,11 @@ module _ (net : Network) (floor : Lengths) (new : Network) (has : HasFloors net 
   floors_tangle = tangle_same net new has.nodes has.long same_ends
 
   pub floors_even : IsEven net → IsEven new
-  floors_even even = record {
-    high = λ k l. (let low : k < length net.arcs = omega (arith, has.long) in
-        omega (arith, old_at k low, even.high k low));
-    small = omega (arith, count_same (λ a. a.old) new.arcs net.arcs has.long old_at, even.small);
-    balanced = λ v. sums true v ∙ (even.balanced v ∙ sym (sums false v));
-  }
+  floors_even even = search (rules, old_at, count_same (λ a. a.old) new.arcs net.arcs has.long old_at, sums)
     where
       sums : (plus : Bool) (v : ℕ) → side_sum new.arcs (λ k. pos (arc_at new.arcs k).old) plus v
           ≡ side_sum net.arcs (λ k. pos (arc_at net.arcs k).old) plus v
-      sums plus v = sums_same net new has.nodes has.long same_ends (λ k. pos (arc_at new.arcs k).old)
-          (λ k. pos (arc_at net.arcs k).old) plus v (λ k l. ap pos (old_at k l))
+      sums plus v = search (rules, sums_same)
 
   -- Lists deviate as much from what is wanted.
   pub floors_deviation : (x : ℕ → ℤ) → deviation new x ≡ deviation net x
@@ -133,17 +127,15 @@ risen_is : (P : ℕ → Type 0) (rises : List Rise) (floors : Lengths) (a : ℕ)
     → ((k : ℕ) → k < length rises → (rise_at rises k).arc ≡ a → P (rise_at rises k).floor) → P (floors a)
     → P (risen_floors rises floors a)
 risen_is P [] floors a rose stayed = stayed
-risen_is P (r ∷ rs) floors a rose stayed = elim (cases_eq a r.arc) [
-  | inl same ↦ rw (eq-eqb a r.arc same) (rose 0 (omega arith) (sym same))
-  | inr other ↦ rw (ne_eqb a r.arc other) (risen_is P rs floors a (λ k low. rose (suc k) (omega arith)) stayed)
-]
+risen_is P (r ∷ rs) floors a rose stayed =
+    let more = risen_is P rs floors a (λ k low. rose (suc k) (omega arith)) stayed in
+    search (rules, cases_eq a r.arc, rose 0)
 
 module _ (l : Gluing) (x : Lengths) (rises : List Rise) (are : AreNeeded l x rises) (floors : Lengths) where
   -- They are within the bounds.
   pub risen_low : (a : ℕ) → (1 ≤ floors a) × (floors a ≤ MAX_FLOOR)
       → (1 ≤ risen_floors rises floors a) × (risen_floors rises floors a ≤ MAX_FLOOR)
-  risen_low a within = risen_is (λ f. (1 ≤ f) × (f ≤ MAX_FLOOR)) rises floors a
-      (λ k low same. (omega (arith, (are.each k low).short), (are.each k low).low)) within
+  risen_low a within = search (rules, risen_is (λ f. (1 ≤ f) × (f ≤ MAX_FLOOR)) rises floors a, are.each)
 
   -- No floor falls, so how far they are below the greatest does.
   pub risen_more : ((a : ℕ) → a < l.arcs → floors a ≤ x a) → count_below (λ a. MAX_FLOOR - risen_floors rises floors a)

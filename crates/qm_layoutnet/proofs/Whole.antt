@@ -1,5 +1,5 @@
 -- What the layout of a mesh gives: its arcs have at most all darts, and its patches at most all faces.
-use Rattle.std.proofs.Common.{◌≡◌, ℕ, ◌-◌, ◌^◌, ◌<◌, ◌≤◌, [], length, get_or, refl, ap, arith}
+use Rattle.std.proofs.Common.{rules, ◌≡◌, ℕ, ◌-◌, ◌^◌, ◌<◌, ◌≤◌, [], length, get_or, refl, ap, arith}
 use Rattle.std.proofs.lemmas.List.{get_or-map, length-map}
 use Rattle.def_math.specs.{Counts.count_below, Runs.run_at}
 use Rattle.def_mesh.specs.{Darts.darts, HalfEdges.half_edges, HalfEdges.IsQuadManifold}
@@ -25,8 +25,7 @@ module _ (layout : Layout) (is : IsSomeLayout layout) where
   -- They are darts of the mesh.
   pub arc_inside : (a k : ℕ) → a < length layout.arcs → k < long_at layout.arcs a
       → dart_at layout.arcs a k < darts is.faces
-  arc_inside = dart_low (half_edges is.faces) laws (is_on is.marks) cut (is_node is.faces is.marks) nodes layout.arcs
-      is.laid.arcs
+  arc_inside = search (rules, dart_low, laws, cut, nodes)
 
   -- The darts of all arcs, one after the other, differ, so there are no more than the mesh has.
   pub lengths_few : count_below (long_at layout.arcs) (length layout.arcs) ≤ darts is.faces

@@ -1,6 +1,6 @@
 -- Laws of sums of whole numbers.
-use Rattle.std.proofs.Common.{◌≡◌, ℕ, zero, suc, ◌+◌, ◌<◌, List, [], ◌∷◌, ◌++◌, ℤ, pos, negsuc, ◌+ℤ◌, ◌-ℤ◌, ◌*ℤ◌, ◌≤ℤ◌}
-use Rattle.std.proofs.Common.{◌<ℤ◌, refl, zero-add, add-zero, add-one, sym, ap, inl, inr, ◌⊎◌, arith, ◌*◌, ◌≤◌}
+use Rattle.std.proofs.Common.{rules, ◌≡◌, ℕ, zero, suc, ◌+◌, ◌<◌, List, [], ◌∷◌, ◌++◌, ℤ, pos, negsuc, ◌+ℤ◌, ◌-ℤ◌, ◌*ℤ◌}
+use Rattle.std.proofs.Common.{◌≤ℤ◌, ◌<ℤ◌, refl, zero-add, add-zero, add-one, sym, ap, inl, inr, ◌⊎◌, arith, ◌*◌, ◌≤◌}
 use Rattle.std.proofs.Common.{mul-zero, mul-add}
 use Rattle.std.proofs.{lemmas.Int.ints, lemmas.Bool.cases_eq}
 use Rattle.def_math.specs.{Sums.total, Sums.total_below, Sums.span, Counts.count, Counts.count_below}
@@ -33,11 +33,7 @@ total_sum f g (x ∷ xs) = omega (integers, total_sum f g xs)
 -- Equal terms below the bound have equal sums.
 pub total_below_same : (f g : ℕ → ℤ) (n : ℕ) → ((k : ℕ) → k < n → f k ≡ g k) → total_below f n ≡ total_below g n
 total_below_same f g zero same = refl
-total_below_same f g (suc n) same = omega (
-  integers,
-  total_below_same f g n (λ k l. same k (omega arith)),
-  same n (omega arith),
-)
+total_below_same f g (suc n) same = search (rules, total_below_same f g n (λ k l. same k (omega arith)))
 
 -- No term below the bound is greater, and so no sum.
 pub total_below_le : (f g : ℕ → ℤ) (n : ℕ) → ((k : ℕ) → k < n → f k ≤ℤ g k) → total_below f n ≤ℤ total_below g n
@@ -57,11 +53,7 @@ total_below_minus f g (suc n) = omega (integers, total_below_minus f g n)
 -- A sum of zeros below a bound.
 pub total_below_none : (f : ℕ → ℤ) (n : ℕ) → ((k : ℕ) → k < n → f k ≡ pos 0) → total_below f n ≡ pos 0
 total_below_none f zero none = refl
-total_below_none f (suc n) none = omega (
-  integers,
-  total_below_none f n (λ k l. none k (omega arith)),
-  none n (omega arith),
-)
+total_below_none f (suc n) none = search (rules, total_below_none f n (λ k l. none k (omega arith)))
 
 -- One term alone counts.
 pub total_below_one : (f : ℕ → ℤ) (n u : ℕ) → u < n → ((k : ℕ) → k < n → (k ≡ u → ⊥) → f k ≡ pos 0)
@@ -92,9 +84,7 @@ pub some_below : (f : ℕ → ℤ) (n : ℕ) → total_below f n <ℤ pos 0 → 
 some_below f zero low = absurd (omega integers)
 some_below f (suc n) low = elim (cases_neg (f n)) [
   | inl here ↦ (n, omega arith, here)
-  | inr there ↦
-      let (k, l, less) = some_below f n (omega integers) in
-      (k, omega arith, less)
+  | inr there ↦ search (rules, some_below f n (omega integers))
 ]
 
 -- A run in two parts.
@@ -132,12 +122,7 @@ count_below_total f (suc n) = omega (integers, count_below_total f n)
 
 -- Equal terms below the bound have equal counts.
 pub count_below_same : (f g : ℕ → ℕ) (n : ℕ) → ((k : ℕ) → k < n → f k ≡ g k) → count_below f n ≡ count_below g n
-count_below_same f g n same = omega (
-  integers,
-  count_below_total f n,
-  count_below_total g n,
-  total_below_same (λ k. pos (f k)) (λ k. pos (g k)) n (λ k l. ap pos (same k l)),
-)
+count_below_same f g n same = search (rules, count_below_total, total_below_same)
 
 -- No term below the bound is greater, and so no count.
 pub count_below_le : (f g : ℕ → ℕ) (n : ℕ) → ((k : ℕ) → k < n → f k ≤ g k) → count_below f n ≤ count_below g n

@@ -1,7 +1,6 @@
 -- Prefix sums, and counts along the first part of a list.
-use Rattle.std.proofs.Common.{◌≡◌, ℕ, zero, suc, ◌+◌, ◌<◌, ◌≤◌, List, [], ◌∷◌, length, get_or, take, ◌∙◌, ap, inl, inr}
-use Rattle.std.proofs.Common.{arith}
-use Rattle.std.proofs.{lemmas.Bool.cases_eq, lemmas.List.take_more}
+use Rattle.std.proofs.{lemmas.Grind.common_steps, lemmas.Bool.cases_eq}
+use Rattle.std.proofs.Common.{◌≡◌, ℕ, zero, suc, ◌+◌, ◌<◌, ◌≤◌, List, length, get_or, take, inl, inr, arith}
 use Rattle.{def_math.specs.Counts.count, def_math.specs.Counts.count_below, sum_laws.proofs.Sums.count_append}
 
 -- A sum below a greater bound is no smaller.
@@ -19,5 +18,4 @@ part_low f v n l = count_below_up f (suc v) n (omega arith)
 -- One element more is counted.
 pub count_take : {X : Type 0} (f : X → ℕ) (d : X) (xs : List X) (i : ℕ) → i < length xs → count f (take (i + 1) xs)
     ≡ count f (take i xs) + f (get_or xs i d)
-count_take f d xs i l = ap (count f) (take_more xs i d l) ∙ (count_append f (take i xs) (get_or xs i d ∷ [])
-    ∙ omega arith)
+count_take f d xs i l = grind (arith, common_steps, count_append)

@@ -1,8 +1,8 @@
 -- Tables that something is added to, one place after the other.
-use Rattle.std.proofs.Common.{◌≡◌, ℕ, ◌+◌, ◌<◌, ◌≤◌, List, length, replicate, sym, ◌∙◌, inl, inr, eq-eqb, ne_eqb, arith}
-use Rattle.std.proofs.lemmas.List.{length-set, get_or_past, get_or-set_same, get_or-set_other, length-replicate}
-use Rattle.std.proofs.lemmas.List.{get_or-replicate}
-use Rattle.std.proofs.lemmas.Bool.{cases_eq, cases_lt}
+use Rattle.std.proofs.Common.{rules, ◌≡◌, ℕ, ◌+◌, ◌<◌, ◌≤◌, List, length, replicate, sym, ◌∙◌, inl, inr, eq-eqb, ne_eqb}
+use Rattle.std.proofs.Common.{arith}
+use Rattle.std.proofs.lemmas.{List.length-set, List.get_or_past, List.get_or-set_same, List.get_or-set_other}
+use Rattle.std.proofs.lemmas.{List.length-replicate, List.get_or-replicate, Bool.cases_eq}
 use Rattle.std.specs.Prelude.{slice_index}
 use Rattle.def_math.specs.Tables.{add_at, at_place, IsRaised, IsTally}
 
@@ -22,8 +22,7 @@ raised_at table place more low = record { long = length-set table place (slice_i
 -- An addition, in other words.
 pub raised_as : (f g : ℕ → ℕ) (old new : List ℕ) → ((v : ℕ) → v < length old → f v ≡ g v) → IsRaised f old new
     → IsRaised g old new
-raised_as f g old new same raised =
-    record { long = raised.long; each = λ v l. omega (arith, raised.each v l, same v l) }
+raised_as f g old new same raised = search rules
 
 -- At first all is 0.
 pub tally_none : (f : ℕ → ℕ) (bound : ℕ) → ((v : ℕ) → v < bound → f v ≡ 0) → IsTally f bound (replicate bound 0)
@@ -37,15 +36,9 @@ tally_none f bound none = record { count = length-replicate bound 0; each = each
 -- One thing more is tallied.
 pub tally_more : (f g more : ℕ → ℕ) (bound : ℕ) (old new : List ℕ) → ((v : ℕ) → v < bound → g v ≡ f v + more v)
     → IsTally f bound old → IsRaised more old new → IsTally g bound new
-tally_more f g more bound old new step are raised = record {
-  count = raised.long ∙ are.count;
-  each = λ v l. omega (arith, raised.each v (omega (arith, are.count)), are.each v l, step v l);
-}
+tally_more f g more bound old new step are raised = search rules
 
 -- A table of small values is small, also past its end.
 pub tally_low : (f : ℕ → ℕ) (bound most : ℕ) (table : List ℕ) → IsTally f bound table
     → ((v : ℕ) → v < bound → f v ≤ most) → (v : ℕ) → slice_index table v ≤ most
-tally_low f bound most table are small v = elim (cases_lt v bound) [
-  | inl l ↦ omega (arith, are.each v l, small v l)
-  | inr h ↦ omega (arith, get_or_past table v 0 (omega (arith, are.count)))
-]
+tally_low f bound most table are small v = search (rules, get_or_past)

@@ -1,14 +1,8 @@
-use Rattle.std.proofs.Common.{arith}
-use Rattle.qm_gadget.proofs.OfList.{plan_graph, plan_at, plan_small}
+use Rattle.{std.proofs.Common.arith, qm_gadget.proofs.OfList.plan_graph, qm_gadget.proofs.OfList.plan_small}
 use Rattle.qm_gadget.proofs.build.graph_over.Goals as goal
 
 pub new-requires : goal.new-requires
 new-requires c = omega (arith, plan_small c.args.boxes.now.ready c.in_ok-plan.ensures c.requires)
-
-pub invariant_of-covered : goal.invariant_of-covered
-invariant_of-covered c = record {
-  at = rw (c.in_ok-copies.ensures, c.deref.ensures.value) (plan_at c.args.boxes.now.ready c.in_ok-plan.ensures);
-}
 
 pub lay_out-requires : goal.lay_out-requires
 lay_out-requires c = rw (c.in_ok-copies.ensures, c.deref.ensures.value)

@@ -1,6 +1,5 @@
 use Rattle.std.proofs.Common.{◌≡◌, ℕ, ◌+◌, ◌-◌, ◌≤◌, List, drop, slice_index_or, ap, append_assoc, arith}
-use Rattle.std.proofs.lemmas.List.{drop_more}
-use Rattle.qm_gadget.specs.{Layout.copies_in, Read.width_of_unit}
+use Rattle.{std.proofs.lemmas.List.drop_more, qm_gadget.specs.Layout.copies_in, qm_gadget.specs.Read.width_of_unit}
 use Rattle.qm_gadget.proofs.{NodeCounts.no_unit, Numbers.increasing_skip, Numbers.states_read, Numbers.count_in_width}
 use Rattle.{def_math.specs.Counts.count, def_flow.specs.declared.units.ArcUnit.ArcUnit}
 

@@ -1,21 +1,10 @@
-use Rattle.std.proofs.Common.{ℕ, ◌+◌, ◌++◌, [], ◌∷◌, ◌<◌, not, length, slice_index, ◌∙◌, ap, arith}
-use Rattle.std.proofs.lemmas.Result.{on_ok_weaker}
-use Rattle.def_flow.specs.{declared.units.ArcUnit.ArcUnit, Units.is_active}
+use Rattle.std.proofs.Common.{rules, ◌<◌, length, arith}
 use Rattle.qm_gadget.proofs.Numbers.{places_two, unit_two}
-use Rattle.{gadget_laws.specs.Marks.places, gadget_laws.proofs.Pick.choice_length, qm_gadget.specs.Layout.copies_in}
+use Rattle.{gadget_laws.proofs.Pick.choice_length, qm_gadget.specs.Layout.copies_in}
 use Rattle.qm_gadget.proofs.marks.push_unit_marks.Goals as goal
 
 pub returns-in-None-clause-marks : goal.returns-in-None-clause-marks
-returns-in-None-clause-marks c =
-    let unit : ArcUnit = c.args.counted.now.unit.now in
-    let copies : ℕ → ℕ = copies_in c.args.counted.now.counts.now in
-    on_ok_weaker c.push_mark.result
-    (λ pushed. rw c.in-None.is (places_two c.args.m.now.items c.args.k _ _
-    (choice_length (is_active c.args.on unit.left) (slice_index c.args.used.now unit.left.node)
-    (copies unit.left.node)) c.in_ok-push_end_marks.ensures
-    (pushed ∙ ap (λ b. c.push_end_marks.new.m.items ++ places (c.args.k + copies unit.left.node) (not b ∷ []))
-    c.is_active.ensures)))
-    c.push_mark.ensures
+returns-in-None-clause-marks c = search (rules, places_two, choice_length)
 
 pub returns-in_ok-push_right_marks-in-Some-clause-marks : goal.returns-in_ok-push_right_marks-in-Some-clause-marks
 returns-in_ok-push_right_marks-in-Some-clause-marks c =

@@ -1,7 +1,6 @@
-use Rattle.std.proofs.Common.{◌≡◌, ℕ, ◌*◌, ◌^◌, ◌<◌, ◌≤◌, List, map, length, sym, ap, ◌∙◌, refl, subst, arith}
-use Rattle.std.proofs.lemmas.List.{with_items_is, length-map}
-use Rattle.std.specs.{Vec.with_items, List.All}
-use Rattle.def_layout.specs.{Arcs.path, Arcs.long_at, Layouts.gluing_of, Layouts.layout_of, declared.tmesh.TArc.TArc}
+use Rattle.std.proofs.Common.{rules, ◌≡◌, ℕ, ◌*◌, ◌^◌, ◌≤◌, List, map, length, sym, ap, ◌∙◌, refl, subst, arith}
+use Rattle.std.{proofs.lemmas.List.with_items_is, proofs.lemmas.List.length-map, specs.Vec.with_items}
+use Rattle.def_layout.specs.{Arcs.path, Arcs.long_at, Layouts.gluing_of, Layouts.layout_of}
 use Rattle.qm_layoutnet.specs.Ends.{open_arc, AreEnds, PatchesBelow}
 use Rattle.qm_layoutnet.proofs.{Built.all_is, Built.ends_begin, Built.net_is, Whole.few_patches, Whole.lengths_few}
 use Rattle.qm_layoutnet.proofs.{Whole.runs_short}
@@ -10,8 +9,7 @@ use Rattle.{def_math.specs.Counts.count_below, def_flow.specs.declared.net.Arc.A
 use Rattle.qm_layoutnet.proofs.build.any_net_of.Goals as goal
 
 pub open_arcs-requires : goal.open_arcs-requires
-open_arcs-requires c = subst (λ (runs : List TArc). All (λ (run : TArc). length run.darts.items < 2 ^ 32) runs)
-    (sym c.deref.ensures.value) (runs_short c.args.t.now c.requires.layout)
+open_arcs-requires c = search (rules, runs_short)
 
 pub put_all_ends-requires-clause-laid : goal.put_all_ends-requires-clause-laid
 put_all_ends-requires-clause-laid c = laid_of _ c.requires.layout

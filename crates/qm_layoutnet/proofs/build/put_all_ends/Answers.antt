@@ -1,9 +1,8 @@
-use Rattle.std.proofs.Common.{◌≡◌, ◌+◌, ◌<◌, true, List, map, length, sym, ap, refl, subst, arith}
+use Rattle.std.proofs.Common.{◌≡◌, ◌<◌, true, map, length, ap, refl, arith}
 use Rattle.std.proofs.lemmas.List.{get_or_default, length-map}
 use Rattle.def_layout.specs.{declared.tmesh.SideArc.SideArc, Arcs.path, Arcs.long_at, Gluings.Slot, Layouts.gluing_of}
 use Rattle.def_layout.specs.{Layouts.layout_of, Layouts.side_at}
-use Rattle.{def_flow.specs.declared.net.Arc.Arc, def_cut.specs.Grids.rectangle, qm_layoutnet.specs.Ends.AreEnds}
-use Rattle.{qm_layoutnet.specs.Ends.PatchesBelow, qm_layoutnet.proofs.EndTables.patch_more}
+use Rattle.{def_cut.specs.Grids.rectangle, qm_layoutnet.proofs.EndTables.patch_more}
 use Rattle.qm_layoutnet.proofs.build.put_all_ends.Goals as goal
 
 pub put_four-requires-clause-uses : goal.put_four-requires-clause-uses
@@ -22,8 +21,7 @@ loop-p-preserved c =
     let p_low : c.loop-p.p < length (map rectangle t.patches.items) =
     omega (arith, c.len-p-end.ensures, c.requires.sided, length-map t.patches.items rectangle) in
     record {
-      done = λ set begin. subst (λ (xs : List Arc). AreEnds (gluing_of (layout_of t)) (long_at (map path t.arcs.items))
-          set (PatchesBelow (c.loop-p.p + 1)) xs) (sym c.put_four.ensures) (patch_more (gluing_of (layout_of t))
+      done = λ set begin. rw c.put_four.ensures (patch_more (gluing_of (layout_of t))
           (long_at (map path t.arcs.items)) set c.requires.laid c.loop-p.p (side_at (layout_of t) c.loop-p.p)
           c.loop-p.arcs p_low (λ s j d h. get_or_default (side_at (layout_of t) c.loop-p.p s) j d _ h) (λ s. refl)
           (c.loop-p.invariant.done set begin));

@@ -1,4 +1,4 @@
-use Rattle.std.proofs.Common.{◌≡◌, ◌<◌, List, length, get_or, refl, sym, ◌∙◌, arith}
+use Rattle.std.proofs.Common.{rules, ◌≡◌, ◌<◌, List, length, get_or, refl, arith}
 use Rattle.def_layout.specs.{declared.tmesh.Side.Side, declared.tmesh.SideArc.SideArc, Gluings.Way, Gluings.south}
 use Rattle.def_layout.specs.{Gluings.east, Gluings.north, Gluings.west, Layouts.way_number}
 use Rattle.qm_layoutnet.proofs.build.put_four.Goals.{After-index-four}
@@ -10,11 +10,7 @@ among : (c : After-index-four) (s : Way) (side : Side) (arcs : List Arc) {us : L
     → length arcs ≡ length c.args.arcs.now → way_number s < 4
     → us ≡ (get_or c.index-four.result.now (way_number s) side).arcs.items
     → All (λ (u : SideArc). u.arc < length arcs) us
-among c s side arcs long way read = rw (
-  read ∙ sym (read_side c.args.t.now.sides.items c.args.p (way_number s) _ side
-      c.requires.low c.index-four.ensures c.requires.four way),
-  long,
-) (c.requires.uses s)
+among c s side arcs long way read = search (rules, read_side)
 
 pub put_ends-requires : goal.put_ends-requires
 put_ends-requires c = among (goal.at.put_ends-requires c).After-index-four south _ c.args.arcs.now refl (omega arith)
