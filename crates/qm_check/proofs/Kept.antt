@@ -1,5 +1,6 @@
 -- What is kept by certificates that are checked, and why none is.
-use Rattle.std.proofs.Common.{ap, ◌+◌, refl, ◌++◌, subst, [], ℕ, ◌∷◌, inl, arith, length, List, ◌∙◌, ◌≡◌, inr, sym}
+use Rattle.std.proofs.Common.{rules, ap, ◌+◌, refl, ◌++◌, subst, [], ℕ, ◌∷◌, inl, arith, length, List, ◌∙◌, ◌≡◌, inr}
+use Rattle.std.proofs.Common.{sym}
 use Rattle.std.proofs.lemmas.List.{get_or_default}
 use Rattle.def_layout.specs.{Layouts.Layout, Layouts.gluing_of, Lengths.Lengths, Gluings.Gluing}
 use Rattle.def_run.specs.{Judging.AreWrong, Judging.AreFront, Judging.first_of, Judging.IsWrong}
@@ -12,7 +13,7 @@ use Rattle.remesh_laws.specs.Keeps.{AreLed, floors_behind}
 use Rattle.def_flow.specs.{Accepted.certificate, declared.cert.Cert.Cert, declared.net.Settings.Settings}
 use Rattle.def_flow.specs.{Network.Network, Descent.IsSolution, Admissible.entries, Admissible.deviation}
 use Rattle.remesh_laws.proofs.{ReadAgain.net_risen, ReadAgain.behind_more, ReadAgain.led_more, ReadAgain.used_behind}
-use Rattle.remesh_laws.proofs.{Keeps.solved, Keeps.doubled_some, Keeps.keeps}
+use Rattle.remesh_laws.proofs.{Keeps.solved, Keeps.keeps}
 use Rattle.def_layoutnet.specs.Floors.{floor_of, HasFloors}
 use Rattle.qm_check.specs.Checked.{GivesNone, IsChecked, ArePassed, IsInReach, Gives, IsUnused, IsCheckable, AreInReach}
 use Rattle.qm_check.specs.Checked.{IsNoRise}
@@ -28,8 +29,7 @@ use Rattle.def_run.specs.declared.answer.Why.TheVariants as why
 pub risen_append : (rounds more : List Round) (after : Certificates)
     → risen_by (rounds ++ more) after ≡ risen_by rounds (risen_by more after)
 risen_append [] more after = refl
-risen_append (round ∷ rounds) more after =
-    ap (risen (lists_of round.cert) round.rises.items) (risen_append rounds more after)
+risen_append (round ∷ rounds) more after = search (rules, risen_append rounds more after)
 
 -- What is behind rounds is in reach where all is.
 pub reach_behind : (rising : Rising) (rounds : List Round) (after : Certificates)
@@ -51,8 +51,7 @@ module _ (wish : Wish) (layout : Layout) (settings : Settings) where
       → AreKeptBy (IsCertified wish layout settings) layout floors rising (risen_by rounds after)
   kept_led rising [] floors last after reach led kept = kept
   kept_led rising (round ∷ rounds) floors last after reach led kept =
-      let more = kept_led rising rounds (risen_floors round.rises.items floors) last after reach.1 led.2 kept in
-      (reach.2, led.0, led.1, more)
+      search (rules, kept_led rising rounds (risen_floors round.rises.items floors) last after reach.1 led.2 kept)
 
   -- What is wrong behind rounds that lead there is wrong with them in front.
   wrong_behind : (rounds : List Round) (floors : Lengths) (n m : ℕ) (after : Certificates) (why : Why)
@@ -86,20 +85,13 @@ module _ {wish : Wish} {layout : Layout} {net : Network} where
   pub wrong_of : {floors : Lengths} {settings : Settings} (cert : Cert) (why : Why)
       → IsNetWith wish layout settings floors net → GivesNone layout net cert (NotAccepted why)
       → IsWrong wish layout settings floors (lists_of cert) why
-  wrong_of cert (why.Verdict verdict) for (told, refuted) =
-      record { net = net; of_layout = for.is; told = told; refuted = refuted }
-  wrong_of cert (why.TooFine faces) for (is, fine) = (solved layout _ net cert for is, fine)
-  wrong_of cert _ for none = absurd none
+  wrong_of h1 h2 h3 = search (rules, solved)
 
   -- Lengths that double an edge are doubling.
   pub doubling_of : {floors : Lengths} {settings : Settings} (cert : Cert) {u v : ℕ}
       → IsNetWith wish layout settings floors net → IsSolution net (certificate cert)
       → Gives layout net cert.x.items (Doubled u v) → IsDoubling wish layout settings floors (lists_of cert)
-  doubling_of cert for is gives = record {
-    fit = solved layout _ net cert for is;
-    coarse = gives.0;
-    doubled = doubled_some layout cert.x.items _ _ gives.1;
-  }
+  doubling_of cert for is gives = search (rules, solved)
 
 -- ---- Behind rounds that are passed.
 
@@ -122,8 +114,7 @@ module _ {wish : Wish} {layout : Layout} {settings : Settings} {start : Network}
   -- The rounds in front are numbered from 1.
   wrong_there : (after : Certificates) (why : Why) → AreWrong wish layout settings floors (1 + length rounds) after why
       → AreWrong wish layout settings (given_floors settings) 1 (risen_by rounds after) why
-  wrong_there after why wrong = wrong_behind wish layout settings rounds (given_floors settings) 1 (1 + length rounds)
-      after why refl passed.led wrong
+  wrong_there after why wrong = search (rules, wrong_behind)
 
   -- The certificate behind them gives no lengths.
   pub unused_there : (after : Certificates) (cert : Cert) (fail : CheckFail) → lists_of cert ≡ first_of after
@@ -138,18 +129,14 @@ module _ {wish : Wish} {layout : Layout} {settings : Settings} {start : Network}
   pub unused_last : (cert : Cert) {u v : ℕ} → IsSolution net (certificate cert)
       → Gives layout net cert.x.items (Doubled u v)
       → IsUnused wish layout settings (risen_by rounds (alone (lists_of cert))) (NotAccepted (why.Doubled u v))
-  unused_last cert {u} {v} solution gives = wrong_there (alone (lists_of cert)) (why.Doubled u v)
-      (inr (solved layout settings net cert passed.risen solution, gives.0, gives.1))
+  unused_last cert {u} {v} solution gives = search (rules, wrong_there, inr, solved)
 
   -- The floors that rise behind it do not have to.
   pub unused_rises : (round : Round) (after : Certificates) (number : ℕ) (fail : CheckFail)
       → number ≡ length rounds + 2 → IsDoubling wish layout settings floors (lists_of round.cert)
       → IsNoRise layout round number fail
       → IsUnused wish layout settings (risen_by rounds (risen (lists_of round.cert) round.rises.items after)) fail
-  unused_rises round after number (NotAccepted why) numbered doubling none =
-      let place : number ≡ 1 + length rounds + 1 = omega (arith, numbered) in
-      wrong_there (risen (lists_of round.cert) round.rises.items after) why
-      (inr (doubling, inl (subst (λ (n : ℕ). IsNoRise layout round n (NotAccepted why)) place none)))
+  unused_rises round after number (NotAccepted why) numbered doubling none = search (rules, wrong_there)
   unused_rises round after number _ numbered doubling none = search none
 
   -- One more is passed.

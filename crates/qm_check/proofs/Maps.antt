@@ -1,6 +1,6 @@
 -- The map of bytes that have one, and what is said of those that have none.
-use Rattle.std.proofs.Common.{Option, ◌∙◌, sym, inr, take, None, arith, refl, ◌≡◌, ℕ, ap, subst, ◌↔◌, ◌≤◌, Some}
-use Rattle.std.proofs.{lemmas.Option.none-some, lemmas.Option.same_Some, lemmas.Bool.false≢true}
+use Rattle.std.proofs.Common.{rules, Option, ◌∙◌, sym, inr, take, None, arith, refl, ◌≡◌, ℕ, ap, subst, ◌↔◌, ◌≤◌, Some}
+use Rattle.{std.proofs.lemmas.Option.none-some, embedding_laws.proofs.OneLayout.one_layout_law}
 use Rattle.def_run.specs.Map.{IsHeadedBy, IsMapOf, HasOtherText, asks_of, HasMap, IsNotRefined, IsUnfinished, IsUnlike}
 use Rattle.def_run.specs.Map.{WritesNew}
 use Rattle.def_run.specs.declared.check_fail.CheckFail.TheVariants.{NotAccepted, NotManifold, Tangled, Far, Marks, Old}
@@ -10,15 +10,14 @@ use Rattle.def_run.specs.{Check.head_of, declared.command.Command.Command, Judgi
 use Rattle.def_run.specs.{Remesh.WritesFinished, Mesh.IsMeshText, declared.check_fail.CheckFail.CheckFail}
 use Rattle.def_run.specs.{MapFails.IsMapFail, declared.answer.Why.Why, Refine.WritesRefined}
 use Rattle.def_io.specs.{Bytes.Bytes, Lines.lines_of, Lines.tail_of}
-use Rattle.embedding_laws.proofs.OneLayout.{one_layout_law}
-use Rattle.qm_check.specs.Making.{IsReadyFor, NeverWrites, IsFound, IsUnmade, HasMapOf, IsGivenTo}
+use Rattle.qm_check.specs.Making.{IsReadyFor, IsFound, IsUnmade, HasMapOf, IsGivenTo}
 use Rattle.qm_check.specs.{Multiples.HasNoPoints, Multiples.IsRefinedBy, Ready.IsOld, Ready.IsNoOld}
 use Rattle.qm_check.specs.{declared.judging.Finished.Finished, declared.ready.Ready.Ready, Judged.judged_by}
 use Rattle.qm_check.specs.{Judged.IsTextFail, Checked.IsDifference}
 use Rattle.def_remesh.specs.{CutSoups.Regrid, CutSoups.CutSoup, Certified.IsShown, NewPoints.lengths_in}
 use Rattle.def_remesh.specs.{NewPoints.multiple_of, Refined.refined_text, Refined.refined_faces}
 use Rattle.def_remesh.specs.{declared.limits.TheConstants.MAX_NEW_FACES}
-use Rattle.qm_check.proofs.{Points.one_ok, Points.ok_or_err, Verdicts.shape_of, Verdicts.untangled, Tasks.shown_by}
+use Rattle.qm_check.proofs.{Points.one_ok, Verdicts.shape_of, Verdicts.untangled, Tasks.shown_by}
 use Rattle.{def_certtext.specs.CertLines.used, site_laws.proofs.Laws.graph_law, def_cut.specs.Traced.traced_marks}
 use Rattle.{def_map.specs.MapText.map_text, def_text.specs.FaceSet.FaceSet, def_flow.specs.Network.network}
 use Rattle.{def_layout.specs.Arcs.long_at, def_mesh.specs.Manifold.IsManifold, remesh_laws.proofs.Asides.one_last}
@@ -26,8 +25,7 @@ use Rattle.def_run.specs.declared.answer.Why.TheVariants as why
 
 -- Without such a line there is no map.
 pub unmarked_bytes : (bytes : Bytes) → HasNoMark (lines_of bytes) → IsMapFail bytes (NotAccepted why.NoHead)
-unmarked_bytes bytes none =
-    (none, λ (has : HasMap bytes). false≢true (sym (none has.1.line has.1.divided.there) ∙ has.1.divided.begins))
+unmarked_bytes bytes none = search rules
 
 -- Where a new mesh is written there is an old one.
 new_mesh : (command : Command) (front text : Bytes) → WritesNew command front text → (soup : FaceSet)
@@ -41,16 +39,11 @@ module _ (bytes : Bytes) (line : ℕ) (last : IsLastMark (lines_of bytes) line) 
 
   -- The mesh in front of a map.
   front_mesh : (has : HasMap bytes) → (soup : FaceSet) × IsMeshText (front_of line bytes) soup
-  front_mesh has = rw (← (line_is has))
-      (new_mesh has.1.command (front_of has.1.line bytes) (tail_of has.1.line bytes) has.1.written)
+  front_mesh has = search (rules, new_mesh)
 
   -- The bytes in front have no mesh.
   pub no_front : (fail : CheckFail) → IsNoOld (front_of line bytes) fail → IsMapFail bytes fail
-  no_front (Old fail) (other, says) = (
-    record { line = line; divided = last; said = says },
-    other,
-    λ (has : HasMap bytes). ok_or_err (front_mesh has).1.said says,
-  )
+  no_front (Old fail) (other, says) = search (rules, front_mesh)
   no_front (NotManifold place soup) (says, fault, refuted) = (
     record { line = line; divided = last; said = says; fault = fault; refuted = refuted },
     λ (has : HasMap bytes).
@@ -72,15 +65,6 @@ module _ (bytes : Bytes) (line : ℕ) (last : IsLastMark (lines_of bytes) line) 
           record { line = line; soup = old; front = record { divided = last; mesh = is.mesh }; none = other },
           λ (has : HasMap bytes). other has.1.command (rw (line_is has) at has.1.mark),
         )
-
-    -- It is that of one.
-    pub given_by : {command : Command} → read ≡ Some command → IsGivenTo bytes line old command
-    given_by {command} some = record {
-      last = last;
-      read = is;
-      is = rw (← at) ((reads command).0 some);
-      alone = λ other mark. same_Some other command (sym (reads_here other mark) ∙ some);
-    }
 
 -- The text of a finished task is that of its command, and has its map.
 written_by : (command : Command) (front text : Bytes) → WritesFinished (asks_of command) front text
@@ -122,18 +106,11 @@ module _ {bytes : Bytes} {line : ℕ} {old : FaceSet} {command : Command}
       let same = line_is bytes line given.last has in
       rw (← (given.alone has.1.command (rw same at has.1.mark)), ← same) has.1.written
 
-  -- Where it never writes there is no map.
-  unmapped : NeverWrites command front → HasMap bytes → ⊥
-  unmapped never has = never text (given_writes has)
-
   -- Nothing is made ready for the command.
   pub unmade_fails : (fail : CheckFail) → IsUnmade command front fail → IsMapFail bytes fail
-  unmade_fails (Tangled count) (why, never) =
-      (inr (record { line = line; command = command; headed = headed; said = why }), unmapped never)
-  unmade_fails (Far sum) (why, never) =
-      (inr (record { line = line; command = command; headed = headed; said = why }), unmapped never)
-  unmade_fails (Marks fail) (said, other, never) =
-      (record { line = line; command = command; headed = headed; said = said }, other, unmapped never)
+  unmade_fails (Tangled count) (why, never) = search (rules, inr, headed)
+  unmade_fails (Far sum) (why, never) = search (rules, inr, headed)
+  unmade_fails (Marks fail) (said, other, never) = search rules
   unmade_fails _ none = search none
 
   module _ {ready : Ready} (for : IsReadyFor command front ready) (same : ready.cut.soup ≡ old) where

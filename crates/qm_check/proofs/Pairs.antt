@@ -1,6 +1,6 @@
 -- Where a text and the one that is made differ.
-use Rattle.std.proofs.Common.{◌≡◌, ◌≢◌, ◌≤◌, ◌+◌, ◌-◌, ℕ, suc, [], ◌∷◌, ◌++◌, length, take, refl, ap, sym, ◌∙◌, subst}
-use Rattle.std.proofs.Common.{arith, append-nil, length-append, Ok, inr, Bool, inl}
+use Rattle.std.proofs.Common.{rules, ◌≡◌, ◌≢◌, ◌≤◌, ◌+◌, ◌-◌, ℕ, suc, [], ◌∷◌, ◌++◌, length, take, refl, ap, sym, ◌∙◌}
+use Rattle.std.proofs.Common.{subst, arith, append-nil, length-append, Ok, inr, Bool, inl}
 use Rattle.std.proofs.{Math.Seq.take-append_seam, lemmas.Bool.false≢true}
 use Rattle.def_run.specs.declared.check_fail.CheckFail.TheVariants.{NotAccepted, Far, Marks, Tangled, NotManifold, Old}
 use Rattle.def_run.specs.Check.{IsNoPair, IsCountedPair, IsAsked, head_of, HasOldSoup, RefusesOldText}
@@ -11,7 +11,7 @@ use Rattle.def_io.specs.{Bytes.Bytes, Lines.tail_of, Lines.lines_of}
 use Rattle.qm_check.specs.{Checked.IsDifference, Ready.IsOld, Ready.IsReady, Ready.IsNoOld, declared.ready.Ready.Ready}
 use Rattle.qm_check.specs.{Judged.Finishes, Judged.IsTextFail, Judged.judged_by, declared.judging.Finished.Finished}
 use Rattle.qm_check.specs.{Making.IsFound, Making.IsReadyFor, Making.IsUnmade}
-use Rattle.def_output.specs.Compared.{Compared, Differs, IsAlike, LacksFirst}
+use Rattle.def_output.specs.Compared.{Compared, Differs, IsAlike}
 use Rattle.remesh_laws.proofs.{MarkedLines.pair_law, Asides.one_last}
 use Rattle.def_flow.specs.{Network.network, declared.net.Settings.Settings}
 use Rattle.def_certtext.specs.{HeadLine.IsLastHead, HeadLine.HasNoHead, HeadLine.begins_head, Reading.IsHead}
@@ -44,10 +44,6 @@ differ_behind given text prefix rest more {at = at} is told apart counted same f
     } in
     rw (fails, is, told) differ
 
-lacks_first : (byte : ℕ) (rest more : Bytes) → LacksFirst byte rest → take 1 rest ≢ take 1 (byte ∷ more)
-lacks_first byte [] more lacks same = cc
-lacks_first byte (other ∷ rest) more lacks same = lacks (let first : byte ≡ other = cc in first)
-
 some_first : (rest : Bytes) → rest ≢ [] → take 1 rest ≢ []
 some_first [] some same = some refl
 some_first (x ∷ rest) some same = cc
@@ -57,9 +53,7 @@ module _ (given text : Bytes) {before now : Compared} {at : ℕ} {fail : CheckFa
     (fails : fail ≡ NotAccepted (why.Byte (at + 1))) where
   -- The bytes stop being alike.
   pub stopped_differ : Differs before now text → IsDifference given text fail
-  stopped_differ is = differ_behind given text is.prefix now.rest (is.byte ∷ is.more)
-      (sym (ap (λ (c : Compared). c.rest) fresh) ∙ is.alike) is.said (lacks_first is.byte now.rest is.more is.lacks)
-      (omega (arith, is.counted, ap (λ (c : Compared). c.at) fresh)) same fails
+  stopped_differ is = search (rules, differ_behind)
 
   -- The text is alike, and more is given.
   pub longer_differ : IsAlike before now text → now.rest ≢ [] → IsDifference given text fail
@@ -108,9 +102,7 @@ module _ (bytes front : Bytes) (line : ℕ) (divided : IsLastHead (lines_of byte
       let said = ap (text_soup 1) (sym lines) ∙ says in
       let refused : RefusesOldText bytes fail = record { line = line; divided = divided; said = said } in
       (refused, other, old_refused bytes fail refused)
-  no_old (NotManifold place soup) (says, fault, refuted) =
-      let has = has_soup soup says in
-      (record { line = line; old = has; fault = fault; refuted = refuted }, old_faulty bytes line soup has refuted)
+  no_old (NotManifold place soup) (says, fault, refuted) = search (rules, has_soup, old_faulty)
   no_old _ none = search none
 
   module _ (soup : FaceSet) (is : IsOld front soup) where

@@ -1,19 +1,19 @@
 -- Each command that finds least lengths is a fit under a head line of its own.
-use Rattle.std.proofs.Common.{[], ◌≡◌, ◌↔◌, ℕ, ℤ, Bool, true, false, List, Option, Some, None, IfSome, codes, Result}
-use Rattle.std.proofs.Common.{Ok, Err, inl, inr, refl, sym, ◌∙◌, ap, subst, arith}
+use Rattle.std.proofs.Common.{rules, [], ◌≡◌, ◌↔◌, ℕ, ℤ, Bool, true, false, List, Option, Some, None, IfSome, codes}
+use Rattle.std.proofs.Common.{Result, Ok, Err, inr, refl, sym, ◌∙◌, ap, subst, arith}
 use Rattle.{std.specs.Result.result_map_both, std.specs.List.list_all, def_flow.specs.declared.net.Settings.Settings}
-use Rattle.def_certtext.specs.Risings.{may_rise, rounds_if, third_if}
-use Rattle.def_certtext.specs.{HeadLine.head_line, Reading.IsHead, Settings.AreInRange, declared.certs.Rising.Rising}
-use Rattle.def_certtext.specs.{declared.certs.Rising.TheVariants.Never, declared.Asked.Asked}
 use Rattle.{def_cut.specs.Traced.traced_marks, def_feature.specs.Marked.marked_cut, qm_obj.proofs.LawText.is_inside}
 use Rattle.{def_layout.specs.Layouts.Layout, def_text.specs.FaceSet.FaceSet, def_remesh.specs.Tasks.Task}
+use Rattle.{def_io.specs.Bytes.Bytes, def_marks.specs.Lines.marks_in, def_marks.specs.declared.fail.MarkFail.MarkFail}
+use Rattle.{def_metric.specs.Fails.IsFar, def_metric.specs.Targets.edge_settings, qm_certtext.proofs.Texts.head_inside}
+use Rattle.def_certtext.specs.Risings.{may_rise, third_if}
+use Rattle.def_certtext.specs.{HeadLine.head_line, Reading.IsHead, Settings.AreInRange, declared.certs.Rising.Rising}
+use Rattle.def_certtext.specs.{declared.certs.Rising.TheVariants.Never, declared.Asked.Asked}
 use Rattle.qm_check.proofs.Heads.{fit_inside, fit_range, named_inside, size_inside}
-use Rattle.def_fit.specs.Aims.{fit_settings, AreAimedNear, IsFit}
+use Rattle.def_fit.specs.Aims.{AreAimedNear, IsFit}
 use Rattle.def_fit.specs.{FitTasks.asides_by, FitTasks.asides_in, FitTasks.Asides, declared.fit.Aim.TheVariants.Edge}
 use Rattle.qm_check.specs.{declared.least.Least.Least, Least.terms_of, Least.fixed, Least.least_of, Least.least_task}
 use Rattle.qm_check.specs.{Least.remeshed, Least.scaled, Least.AsksToFind, Least.AsksToFindNear, Least.IsLeastLine}
-use Rattle.{def_io.specs.Bytes.Bytes, def_marks.specs.Lines.marks_in, def_marks.specs.declared.fail.MarkFail.MarkFail}
-use Rattle.{def_metric.specs.Fails.IsFar, def_metric.specs.Targets.edge_settings, qm_certtext.proofs.Texts.head_inside}
 use Rattle.def_patches.specs.{Chosen.IsChosenCut, Chosen.IsPlainCut, declared.Keep.Keep, declared.Patches.Patches}
 use Rattle.def_patches.specs.{declared.Keep.TheVariants.Nothing, declared.Keep.TheVariants.Lines}
 use Rattle.def_patches.specs.{declared.Patches.TheVariants.Traced, declared.Patches.TheVariants.Merged}
@@ -58,10 +58,7 @@ pub record IsPoint (command : Command) (line : Bytes) (least : Least) : Type 0 w
 -- A task whose network is too tangled is refused however it is asked for.
 tangled_by : (one other : Asks) → AreSame one other → (bytes : Bytes) (count : ℕ)
     → RefusesTask one bytes (answers.Tangled count) → RefusesTask other bytes (answers.Tangled count)
-tangled_by one other same bytes count (inl none) = inl none
-tangled_by one other same bytes count (inr (task, layout, has, why)) =
-    let asked = (same bytes has.soup task).0 has.asked in
-    inr (task, layout, record { soup = has.soup; mesh = has.mesh; asked = asked; cut = has.cut }, why)
+tangled_by one other h1 bytes h2 = search rules
 
 -- ---- A fit that asks for no lines.
 
@@ -101,22 +98,7 @@ near_point : (command : Command) (line : Bytes) (keep : Keep) (patches : Patches
     → HasLineFail command bytes fail)
     → ((bytes text : Bytes) → WritesNew command bytes text → WritesFinished (asks_of command) bytes text)
     → IsPoint command line (record { fit = scaled keep patches settings; rising = rising })
-near_point command line keep patches settings rising range inside asks refuses lines writes = record {
-  fit = record {
-    aim = (range.p_low, range.p_high, range.q_low, range.q_high);
-    floor = record { low = range.floor.low; high = range.floor.high; at_first = λ e. cc };
-  };
-  range = range;
-  inside = inside;
-  asks = λ bytes soup task.
-      (λ asked. (asks bytes soup task).0 asked.0, λ is. ((asks bytes soup task).1 is, λ layout laid. tt));
-  tangled = λ bytes count why. refuses bytes count
-      (tangled_by (AsksToFind (record { fit = scaled keep patches settings; rising = rising }) line) (asks_of command)
-      asks bytes count why);
-  far = λ bytes sum far. absurd (far.unbounded tt);
-  lines = lines;
-  writes = writes;
-}
+near_point command line keep patches settings rising range inside asks refuses lines writes = search rules
 
 abbrev beside : (marks : List Bool) → Asides
 beside marks = record { kept = Some marks; wishes = [] }
@@ -129,20 +111,10 @@ crease_gives : (settings : Settings) (soup : FaceSet) (task : Task) (said : Resu
     (asides : Asides) (cut : List Bool) → creased_by said ≡ Ok asides → IsChosenCut soup.faces asides.kept Traced cut
     → task ≡ least_task (fixed (scaled Lines Traced settings)) (named_head (codes "crease") settings) soup asides cut
     → (marks : List Bool) × (said ≡ Ok marks) × (task ≡ creased_task settings soup.faces marks)
-crease_gives settings soup task (Ok marks) asides cut said chosen is =
-    let same : asides ≡ beside marks = one_ok said refl in
-    let cut_is : cut ≡ marked_cut soup.faces marks = rw same at chosen in (
-      marks,
-      refl,
-      is ∙ (λ i. least_task (fixed (scaled Lines Traced settings)) (named_head (codes "crease") settings)
-          soup (same i) (cut_is i)),
-    )
-crease_gives settings soup task (Err fail) asides cut said chosen is = absurd (ok_or_err said refl)
+crease_gives settings soup h1 h2 h3 = search rules
 
 crease_fails : (said : Result (List Bool) MarkFail) (fail : MarkFail) → creased_by said ≡ Err fail → said ≡ Err fail
-crease_fails (Ok marks) fail is = absurd (ok_or_err refl is)
-crease_fails (Err other) fail is =
-    let both : ◌≡◌ {A = Result Asides MarkFail} (Err other) (Err fail) = is in cc
+crease_fails said fail h1 = search rules
 
 -- ---- `size`.
 
@@ -206,23 +178,7 @@ point_by (Size edge floor) line is =
       lines = λ bytes fail has. absurd (ok_or_err refl has.said);
       writes = λ bytes text wrote. wrote;
     })
-point_by (Fit fit) line is = rw is.written (record {
-  fit = is.in_range;
-  range = subst (AreInRange (fit_settings fit)) (elim fit.auto as (λ auto. auto ≡ may_rise (rounds_if auto))
-      [ true ↦ refl | false ↦ refl ]) (fit_range fit is.in_range);
-  inside = fit_inside fit is.in_range;
-  asks = λ bytes soup task. (λ asked. asked, λ asked. asked);
-  tangled = λ bytes count why. why;
-  far = λ bytes sum far. record {
-    task = far.task;
-    layout = far.layout;
-    asked = far.asked;
-    unbounded = far.unbounded;
-    far = far.far;
-  };
-  lines = λ bytes fail has. has;
-  writes = λ bytes text wrote. wrote;
-})
+point_by (Fit fit) line is = search (rules, fit_inside)
 point_by _ line is = tt
 
 pub point_of : {command : Command} {line : Bytes} {least : Least} → IsLeastLine command line least

@@ -1,21 +1,21 @@
 -- The certificates that lines tell are within the limits of the checker.
-use Rattle.std.proofs.Common.{true, [], refl, List, ◌+◌, ◌^◌, ℤ, pos, ◌∷◌, inl, get_or, ℕ, sym, ◌≤◌, suc, ◌≡◌, arith}
-use Rattle.std.proofs.Common.{drop, length, ap, ◌<◌, subst, length-append, ◌∙◌, false, if◌then◌else◌, ◌-◌, inr}
+use Rattle.std.proofs.Common.{rules, true, [], refl, List, ◌+◌, ◌^◌, ℤ, pos, ◌∷◌, inl, get_or, ℕ, sym, ◌≤◌, suc, ◌≡◌}
+use Rattle.std.proofs.Common.{arith, drop, length, ap, ◌<◌, subst, length-append, ◌∙◌, false, if◌then◌else◌, ◌-◌, inr}
 use Rattle.std.proofs.lemmas.Bool.{cases_Bool, and_from, and_parts, ltb-true, cases_lt, false≢true, leb-true}
 use Rattle.std.proofs.lemmas.List.{length-map, length-drop, get_or_append_left, length-take}
 use Rattle.std.proofs.lemmas.List.Sums.{count_by-le-length, length-filter}
 use Rattle.{std.proofs.Math.Seq.get_or-append_right, def_text.specs.declared.limits.TheConstants.MAX_BYTES}
 use Rattle.{def_io.specs.Bytes.Bytes, qm_check.specs.Checked.AreInReach, qm_check.specs.Checked.IsInReach}
 use Rattle.{def_io.specs.Lines.lines_of, remesh_laws.proofs.Solved.all_drop, remesh_laws.proofs.Solved.all_take}
-use Rattle.std.specs.List.{list_all, after_first, list_any, flat_map, position_or_len, before_first}
 use Rattle.{std.specs.Prelude.◌==◌, std.specs.Prelude.⊤, std.specs.Prelude.unsigned_abs, qm_io.proofs.Cuts.lines_few}
+use Rattle.{def_certtext.specs.declared.CertLine.CertLine, def_flow.specs.declared.limits.TheConstants.MAX_LENGTH}
+use Rattle.std.specs.List.{list_all, after_first, list_any, flat_map, before_first}
 use Rattle.def_certtext.specs.Reading.{TellCerts, lists_in, is_third, set_in, vertex_in, certificates_in, is_hash_line}
 use Rattle.def_certtext.specs.Reading.{may_stand, certificates_by, length_in}
 use Rattle.def_certtext.specs.declared.CertLine.TheVariants.{Set, Rise, Vertex, Length, Floor}
 use Rattle.def_certtext.specs.CertLines.{raised, Certificates, alone, line_text}
 use Rattle.def_certtext.specs.Rounds.{put_rise, Part, parts_of, put_line}
 use Rattle.def_certtext.specs.declared.certs.Rising.TheVariants.{Never, Rounds, Third}
-use Rattle.{def_certtext.specs.declared.CertLine.CertLine, def_flow.specs.declared.limits.TheConstants.MAX_LENGTH}
 use Rattle.def_certtext.specs.{declared.certs.Rise.Rise as AnyRise, declared.certs.Rising.Rising}
 
 -- Where each line adds one entry at most, lines add no more entries than they are.
@@ -75,18 +75,7 @@ module _ (rising : Rising) where
       → list_all (may_stand rising) said ≡ true → length said ≤ MAX_BYTES
       → AreInReach rising (if list_any is_third said then raised (lists_in (before_first is_third said))
       (lists_in (after_first is_third said)) else alone (lists_in said))
-  parted_reach said third all few =
-      let place = position_or_len is_third said in
-      elim (cases_Bool (list_any is_third said)) [
-        | inl on ↦ rw on (
-          in_reach (before_first is_third said) (all_take (may_stand rising) place said all)
-              (omega (arith, few, length-take place said)),
-          in_reach (after_first is_third said) (all_drop (may_stand rising) (place + 1) said all)
-              (omega (arith, few, length-drop (place + 1) said)),
-          third on,
-        )
-        | inr off ↦ rw off (in_reach said all few)
-      ]
+  parted_reach said third all few = search (rules, in_reach, all_take, length-take, all_drop, length-drop)
 
 -- ---- Rounds.
 
@@ -103,11 +92,7 @@ MayStand (part ∷ parts) = (list_all (may_stand Rounds) part.said ≡ true) × 
 -- A line in front of parts is one more of theirs, or raises a floor.
 rise_both : (rise : AnyRise) (parts : List Part)
     → (held (put_rise rise parts) ≡ held parts) × (MayStand parts → MayStand (put_rise rise parts))
-rise_both rise [] = (refl, λ may. (refl, tt))
-rise_both rise (part ∷ parts) = elim (cases_Bool (length part.said == 0)) [
-  | inl on ↦ rw on (refl, λ may. may)
-  | inr off ↦ rw off (omega arith, λ may. (refl, may))
-]
+rise_both rise parts = search rules
 
 line_both : (line : CertLine) (parts : List Part) → may_stand Rounds line ≡ true
     → (held (put_line line parts) ≡ suc (held parts)) × (MayStand parts → MayStand (put_line line parts))
@@ -139,8 +124,7 @@ all_in_reach : (rising : Rising) (said : List CertLine) → list_all (may_stand 
 all_in_reach Never said all few =
     parted_reach Never said (λ third. absurd (false≢true (sym (no_floor said all) ∙ third))) all few
 all_in_reach Third said all few = parted_reach Third said (λ third. refl) all few
-all_in_reach Rounds said all few =
-    let (held, may) = parts_both said all in parts_reach (parts_of said) may (omega (arith, few, held))
+all_in_reach Rounds said all few = search (rules, parts_both, parts_reach)
 
 -- The certificates that a text tells are within the limits.
 pub told_reach : (bytes : Bytes) (line : ℕ) (rising : Rising) (certificates : Certificates)

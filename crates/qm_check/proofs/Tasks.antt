@@ -1,15 +1,15 @@
 -- The one task that each command asks of a soup, and why it is not made ready.
-use Rattle.std.proofs.Common.{◌^◌, List, ◌∙◌, inr, ap, subst, Bool, Ok, ◌≡◌, arith, sym, length, ◌<◌, refl}
+use Rattle.std.proofs.Common.{rules, ◌^◌, List, ◌∙◌, inr, ap, subst, Bool, Ok, ◌≡◌, arith, sym, length, ◌<◌, refl}
 use Rattle.{def_cut.specs.FullCut.IsFullCut, def_fit.specs.FitTasks.Asides, def_fit.specs.FitTasks.asides_in}
 use Rattle.{def_text.specs.FaceSet.FaceSet, def_io.specs.Bytes.Bytes, embedding_laws.proofs.OneLayout.one_layout_law}
 use Rattle.{def_fit.specs.Aims.AreAimedNear, def_layout.specs.FaceLayouts.IsCutLayout, def_layout.specs.Layouts.Layout}
+use Rattle.{def_patches.specs.Chosen.IsChosenCut, def_patches.specs.Chosen.AreKeptMarks, def_flow.specs.Network.network}
 use Rattle.patch_laws.proofs.Chosen.{one_cut_law, chosen_cut_law}
-use Rattle.def_run.specs.declared.check_fail.CheckFail.TheVariants.{Marks, Far, Tangled}
+use Rattle.def_run.specs.declared.check_fail.CheckFail.TheVariants.{Far, Tangled}
 use Rattle.def_run.specs.{Remesh.Asks, Map.WritesNew, Map.asks_of, declared.check_fail.CheckFail.CheckFail}
 use Rattle.def_run.specs.{Mesh.IsMeshText, declared.command.Command.Command, Remesh.WritesFinished, Remesh.HasTask}
-use Rattle.{def_patches.specs.Chosen.IsChosenCut, def_patches.specs.Chosen.AreKeptMarks, def_flow.specs.Network.network}
 use Rattle.def_remesh.specs.{CutSoups.Regrid, Keeping.IsNetFor, Tasks.Task, Certified.IsShown, CutSoups.CutSoup}
-use Rattle.qm_check.proofs.{Points.IsPoint, Points.ok_or_err, Points.one_ok, Verdicts.shown_untangled}
+use Rattle.qm_check.proofs.{Points.IsPoint, Points.one_ok, Verdicts.shown_untangled}
 use Rattle.qm_check.specs.{Ready.IsReady, Least.least_task, Ready.IsOld, Judged.Finishes, declared.ready.Ready.Ready}
 use Rattle.qm_check.specs.{declared.judging.Finished.Finished, Making.IsUnmade, Making.IsFound, Least.AsksToFind}
 use Rattle.qm_check.specs.{Least.HasNoNet, Making.IsOnlyTask, Ready.IsAsideFail, declared.least.Least.Least}
@@ -25,8 +25,7 @@ shown_only asks front text soup task mesh alone wrote =
 pub shown_by : (command : Command) (front text : Bytes) (soup : FaceSet) (task : Task) → IsMeshText front soup
     → IsOnlyTask command front soup task → WritesNew command front text → IsShown task soup text
 shown_by (commands.Refine by) front text soup task mesh only wrote = absurd only.asked
-shown_by command front text soup task mesh only wrote =
-    shown_only (asks_of command) front text soup task mesh only.alone wrote
+shown_by command front text soup task mesh only wrote = search (rules, shown_only)
 
 -- What is written for a task that a command asks is found.
 abbrev pub found : {command : Command} {front text : Bytes} {ready : Ready} {finished : Finished} (task : Task)
@@ -58,15 +57,7 @@ module _ {command : Command} {line text : Bytes} {least : Least} (point : IsPoin
   -- A line beside the mesh is refused.
   pub aside_unmade : {soup : FaceSet} → IsMeshText text soup → (fail : CheckFail) → IsAsideFail least.fit text soup fail
       → IsUnmade command text fail
-  aside_unmade {soup} mesh (Marks fail) (other, refused) = (
-    point.lines text fail (record { soup = soup; mesh = mesh; said = refused }),
-    other,
-    λ written wrote.
-        let made = point.writes text written wrote in
-        let found = ((point.asks text made.soup made.task).1 made.asked).0 in
-        ok_or_err found.2 (ap (asides_in least.fit text) (one_ok made.mesh.said mesh.said) ∙ refused),
-  )
-  aside_unmade mesh _ refused = search refused
+  aside_unmade h1 fail h2 = search rules
 
   module _ {cut : CutSoup} {asides : Asides} (old : IsOld text cut.soup) (by : IsCutBy least text cut asides) where
     abbrev pub task : Task
@@ -110,12 +101,5 @@ module _ {command : Command} {line text : Bytes} {least : Least} (point : IsPoin
           (shown_only (asks_of command) text written cut.soup task old.mesh alone
           (point.writes text written wrote)) count tangled,
     )
-    net_unmade (Far sum) (unbounded, far) = (
-      point.far text sum (record { task = task; layout = cut.layout; asked = has; unbounded = unbounded; far = far }),
-      λ written wrote.
-          let made = point.writes text written wrote in
-          let moved = rw (one_ok made.mesh.said old.mesh.said) at made.asked in
-          let near = ((point.asks text cut.soup made.task).1 moved).1 in
-          unbounded ((rw (alone made.task moved) at near) cut.layout by.laid),
-    )
+    net_unmade (Far sum) (unbounded, far) = search (rules, has, alone)
     net_unmade _ none = search none

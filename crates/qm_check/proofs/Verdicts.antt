@@ -1,6 +1,6 @@
 -- What is told of a text that is refused, and that it then finishes no task; and what a text shows that is not refused.
-use Rattle.std.proofs.Common.{Vec, List, Global, ◌↔◌, None, subst, sym, ℕ, Some, arith, drop, ap, inr, ◌≡◌, pos, ◌+◌}
-use Rattle.std.proofs.Common.{inl, Bool, ◌∙◌, take, refl}
+use Rattle.std.proofs.Common.{rules, Vec, List, Global, ◌↔◌, None, subst, sym, ℕ, Some, arith, drop, ap, inr, ◌≡◌, pos}
+use Rattle.std.proofs.Common.{◌+◌, inl, Bool, ◌∙◌, refl}
 use Rattle.def_certtext.specs.CertLines.{raised, Lists, risen, used, certificates_of, alone, Certificates}
 use Rattle.def_certtext.specs.{Reading.HasBadLine, Reading.TellCerts, declared.certs.Rising.Rising}
 use Rattle.def_certtext.specs.{declared.certs.Terms.Terms, declared.certs.Rise.Rise}
@@ -75,12 +75,10 @@ module _ (wish : Wish) (layout : Layout) (mesh : IsSomeLayout layout) (settings 
   none_wrong rising floors n (alone cert) why kept coarse whole (inl bad) = not_wrong floors cert why kept coarse bad
   none_wrong rising floors n (alone cert) (why.Doubled u v) kept coarse whole (inr lone) = whole u v lone.2.doubled
   none_wrong rising floors n (alone cert) _ kept coarse whole (inr lone) = lone
-  none_wrong rising floors n (raised first cert) why kept coarse whole (inl wrong) =
-      not_wrong floors first why kept.1.fit kept.1.coarse wrong
+  none_wrong rising floors n (raised first cert) why kept coarse whole (inl wrong) = search (rules, not_wrong)
   none_wrong rising floors n (raised first cert) why kept coarse whole (inr (doubling, wrong)) =
       not_wrong (λ arc. 3) cert why kept.2 coarse wrong
-  none_wrong rising floors n (risen first rises after) why kept coarse whole (inl wrong) =
-      not_wrong floors first why kept.1.fit kept.1.coarse wrong
+  none_wrong rising floors n (risen first rises after) why kept coarse whole (inl wrong) = search (rules, not_wrong)
   none_wrong rising floors n (risen first rises after) (why.Rises number) kept coarse whole (inr (doubling, inl bad)) =
       bad.1 kept.2
   none_wrong rising floors n (risen first rises after) _ kept coarse whole (inr (doubling, inl bad)) = bad
@@ -125,12 +123,7 @@ module _ (bytes : Bytes) (line : ℕ) {task : Task} {cut : CutSoup} {frame : Fra
   -- The certificates that are compared with are those that were kept, and their text is the one that is given.
   other_fine : (told : Certificates) (why : Why) → told ≡ shown.finished.certificates
       → TellsOtherText (judged_by bytes line (record cut { layout = shown.finished.layout }) task) told why → ⊥
-  other_fine told (why.Byte at) are other =
-      let whole = front_whole task.wish shown.finished.layout task.settings task.rising (given_floors task.settings)
-      other.certificates shown.finished.certificates (subst (AreFront other.certificates) are other.front)
-      shown.certified other.undoubled in
-      other.differ.there (ap (take at) (shown.finished.written
-      ∙ ap (finished_text task cut.soup shown.finished.layout) (sym whole)))
+  other_fine told (why.Byte at) are other = search (rules, front_whole)
   other_fine told _ are other = other
 
   -- A text whose certificates or whose bytes are refused finishes no task.
@@ -168,8 +161,7 @@ untangled wish layout settings net for count tangled =
 pub shape_of : (soup : FaceSet) (marks : List Bool) (layout : Layout) (new : Lengths) → IsSolid soup
     → IsFullCut soup.faces marks → IsCutLayout soup.faces marks layout → KeepsShapes layout new
     → KeepsShape soup.faces (new_faces (gluing_of layout) new) (gluing_of layout).nodes (vertex_at layout)
-shape_of soup marks layout new solid full laid shapes =
-    shapes soup.faces marks solid.mesh (quads_of soup.faces solid.printable.quads) full laid
+shape_of soup marks layout new solid full laid shapes = search (rules, quads_of)
 
 -- What is never wrong with one certificate is not wrong with those of a text.
 module _ (wish : Wish) (layout : Layout) (settings : Settings) (why : Why)
@@ -218,12 +210,9 @@ module _ (bytes : Bytes) (line : ℕ) {task : Task} {ready : Ready} (is : IsRead
       AreBad settings why = AreWrong task.wish ready.cut.layout settings (given_floors settings) 1 told why
 
       bad_by : (why : Why) → AreBad task.settings why → IsTextFail judged (NotAccepted why)
-      bad_by why.NoHead wrong = unsaid task.wish ready.cut.layout task.settings why.NoHead (λ f c none. none)
-          (λ f c none. none) (λ f r n none. none) (given_floors task.settings) 1 told wrong
-      bad_by why.Head wrong = unsaid task.wish ready.cut.layout task.settings why.Head (λ f c none. none)
-          (λ f c none. none) (λ f r n none. none) (given_floors task.settings) 1 told wrong
-      bad_by (why.CertLine bad) wrong = absurd (unsaid task.wish ready.cut.layout task.settings (why.CertLine bad)
-          (λ f c none. none) (λ f c none. none) (λ f r n none. none) (given_floors task.settings) 1 told wrong)
+      bad_by why.NoHead wrong = search (rules, unsaid)
+      bad_by why.Head wrong = search (rules, unsaid)
+      bad_by (why.CertLine bad) wrong = search (rules, unsaid)
       bad_by why wrong = both why (record { told = told; tells = tells; wrong = inl wrong })
 
       -- The certificates are not used.

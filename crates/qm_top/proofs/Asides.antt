@@ -1,9 +1,8 @@
 -- The lines that commands write around a mesh are passed over by a reader of meshes.
-use Rattle.std.proofs.Common.{◌≡◌, ◌+◌, ◌^◌, ◌<◌, ◌≤◌, not, ℕ, zero, suc, ℤ, Bool, true, false, List, [], ◌∷◌, ◌++◌}
-use Rattle.std.proofs.Common.{codes, length, take, map, get_or, sym, ◌∙◌, ap, subst, refl, arith, length-append}
+use Rattle.std.proofs.Common.{rules, ◌≡◌, ◌+◌, ◌^◌, ◌<◌, ◌≤◌, not, ℕ, zero, suc, ℤ, Bool, true, false, List, [], ◌∷◌}
+use Rattle.std.proofs.Common.{◌++◌, codes, length, take, map, get_or, ◌∙◌, ap, refl, arith, length-append}
 use Rattle.std.proofs.{Math.Seq.take-length, lemmas.Bool.and_from, lemmas.Bool.and_parts}
-use Rattle.std.specs.{List.before_first, List.list_all, Prelude.◌==◌, Prelude.◌&&◌, Prelude.if◌then◌else◌}
-use Rattle.std.specs.{Prelude.unsigned_abs}
+use Rattle.std.specs.{List.before_first, List.list_all, Prelude.◌==◌, Prelude.◌&&◌, Prelude.unsigned_abs}
 use Rattle.def_fit.specs.FitWords.{aim_text, fit_head, keep_word, patches_word, spacing_word}
 use Rattle.def_fit.specs.declared.fit.Aim.TheVariants.{Scale, Edge, Wishes}
 use Rattle.def_fit.specs.{Aims.IsAim, Aims.IsFit, declared.fit.Aim.Aim, declared.fit.Fit.Fit}
@@ -12,9 +11,9 @@ use Rattle.def_fit.specs.{declared.fit.Spacing.TheVariants.Wished}
 use Rattle.def_flow.specs.{declared.net.Settings.Settings, declared.net.Weight.Weight}
 use Rattle.def_patches.specs.{declared.Patches.TheVariants.Traced, declared.Keep.Keep, declared.Patches.Patches}
 use Rattle.def_run.specs.{Heads.named_head, Reread.HasShortLines, Size.size_head}
-use Rattle.def_text.specs.{Logical.is_hash, Logical.part_of, Logical.with_space, Reading.begins_with, Words.words}
+use Rattle.def_text.specs.{Logical.is_hash, Reading.begins_with, Words.words}
 use Rattle.qm_obj.proofs.LawText.{is_tame, micro_word, no_continuation}
-use Rattle.remesh_laws.proofs.MarkedLines.{chain_line, chain_tame, marked_chains, marked_ended, marked_lines}
+use Rattle.remesh_laws.proofs.MarkedLines.{chain_line, chain_tame, marked_ended, marked_lines}
 use Rattle.remesh_laws.proofs.Asides.{floor_short, line_aside, number_short, settings_aside}
 use Rattle.{def_certtext.specs.Settings.weight_text, def_certtext.specs.Settings.AreInRange, def_io.specs.Bytes.Bytes}
 use Rattle.{def_io.specs.Bytes.Lines, def_layout.specs.Lengths.Lengths, def_layout.specs.Layouts.Layout}
@@ -27,13 +26,11 @@ use Rattle.def_patches.specs.declared.Keep.TheVariants as keeps
 
 pub coarse_aside : (settings : Settings) → AreInRange settings false
     → IsAside (named_head (codes "coarse") settings ++ 10 ∷ [])
-coarse_aside settings range = settings_aside (codes "#quadq 1 " ++ codes "coarse" ++ codes " scale ") settings false
-    refl refl (omega arith) range
+coarse_aside settings range = search (rules, settings_aside)
 
 pub crease_aside : (settings : Settings) → AreInRange settings false
     → IsAside (named_head (codes "crease") settings ++ 10 ∷ [])
-crease_aside settings range = settings_aside (codes "#quadq 1 " ++ codes "crease" ++ codes " scale ") settings false
-    refl refl (omega arith) range
+crease_aside settings range = search (rules, settings_aside)
 
 pub size_aside : (edge : ℤ) → unsigned_abs edge ≤ 999_999_999_999_999 → (floor : ℕ) → floor < 2 ^ 64
     → IsAside (size_head edge floor ++ 10 ∷ [])
@@ -49,8 +46,7 @@ patches_short Traced = omega arith
 patches_short _ = omega arith
 
 aim_short : (aim : Aim) → IsAim aim → length (aim_text aim) ≤ 100
-aim_short (Scale p q) is = simp length-append
-    (omega (arith, number_short p (omega (arith, is.1)), number_short q (omega (arith, is.3))))
+aim_short (Scale p q) is = search (rules, length-append, number_short)
 aim_short (Edge edge) is = simp length-append (omega (arith, simp length-append at (micro_word edge is.1).short))
 aim_short Wishes is = omega arith
 
@@ -96,16 +92,7 @@ no_face [] = refl
 no_face (vertex ∷ chain) = refl
 
 chain_passed : (chain : List ℕ) → length (chain_line chain) ≤ 65536 → IsPassedOver (chain_line chain)
-chain_passed chain short = record {
-  short = short;
-  whole = no_continuation (chain_line chain) (chain_tame chain);
-  no_vertex = ap (λ (t : Bytes). begins_with 118 (words t)) part ∙ no_vertex chain;
-  no_face = ap (λ (t : Bytes). begins_with 102 (words t)) part ∙ no_face chain;
-}
-  where
-    part : part_of (chain_line chain) ≡ chain_line chain
-    part = ap (λ (t : Bool). if t then with_space (chain_line chain) else before_first is_hash (chain_line chain))
-        (no_continuation (chain_line chain) (chain_tame chain)) ∙ whole_line (chain_line chain) (chain_tame chain)
+chain_passed chain short = search (rules, no_continuation, chain_tame, no_vertex, no_face, whole_line)
 
 chains_passed : (chains : List (List ℕ))
     → ((k : ℕ) → k < length (map chain_line chains) → length (get_or (map chain_line chains) k []) ≤ 65536)
@@ -118,11 +105,4 @@ chains_passed (chain ∷ chains) short (suc k) low =
 module _ (marks : List Bool) (layout : Layout) (new : Lengths) where
   -- They are passed over where none is too long.
   pub marked_aside : HasShortLines (marked_text marks layout new) → IsAside (marked_text marks layout new)
-  marked_aside short = record {
-    ended = marked_ended marks layout new;
-    each = subst
-        (λ (ls : Lines). ((k : ℕ) → k < length ls → length (get_or ls k []) ≤ 65536) → (k : ℕ) → k < length ls
-        → IsPassedOver (get_or ls k []))
-        (sym (marked_lines marks layout new))
-        (chains_passed (marked_chains marks layout new)) short;
-  }
+  marked_aside short = search (rules, marked_ended, marked_lines, chains_passed)

@@ -1,5 +1,5 @@
 -- What a benchmark keeps, whose source is not read: what is kept of a layout, and how far it is from what is wanted.
-use Rattle.std.proofs.Common.{◌≡◌, ℕ, ℤ, pos, [], sym, ◌∙◌, ap, subst, refl}
+use Rattle.std.proofs.Common.{rules, ◌≡◌, ℕ, ℤ, pos, [], sym, ◌∙◌, ap, subst, refl}
 use Rattle.def_certtext.specs.CertLines.{alone, raised, risen, used, Certificates}
 use Rattle.def_certtext.specs.declared.certs.Rising.TheVariants.{Never}
 use Rattle.def_flow.specs.{Admissible.deviation, Admissible.entries, Admissible.AreNetLengths, Network.Network}
@@ -12,13 +12,11 @@ use Rattle.def_run.specs.{Bench.bench_faces, Bench.bench_settings, Bench.IsBench
 use Rattle.def_run.specs.{Causes.IsUnread, Remesh.IsTracedLayout, declared.command.Command.TheVariants.Bench}
 use Rattle.qm_top.specs.{Deviation.IsKeptDeviation, Writing.IsOfLayout, Refusals.answer_of_layout, Refusals.Ended}
 use Rattle.qm_top.specs.{Refusals.IsNoMeshOf, declared.refusal.Refusal.Refusal}
-use Rattle.qm_top.specs.{declared.refusal.Refusal.TheVariants.NotManifold}
-use Rattle.qm_top.proofs.Refusals.{memory_ended, place_ended, layout_ends, IsWriter}
+use Rattle.qm_top.proofs.Refusals.{layout_ends, IsWriter}
 use Rattle.{def_gen.specs.Steps.steps_soup, def_io.specs.Moves.Change, def_mesh.specs.Faces.Faces}
 use Rattle.{def_text.specs.FaceSet.FaceSet, embedding_laws.proofs.Bounds.laid_of}
 use Rattle.{qm_layoutnet.proofs.Balance.one_net_law, remesh_laws.proofs.Solved.writable_short}
 use Rattle.def_remesh.specs.declared.kept.LayoutFail.TheVariants as layouts
-use Rattle.qm_top.specs.declared.refusal.Refusal.TheVariants as refusals
 
 -- ---- What is kept.
 
@@ -38,10 +36,7 @@ module _ {layout : Layout} {tables : Tables} {net : Network} {settings : Setting
   -- The kept lengths are lengths of the layout's network: floors that never rise do not rise to 3, nor in rounds.
   pub kept_lengths : (certificates : Certificates) → IsKept old_lengths layout settings Never certificates tables
       → AreNetLengths net.arcs (used certificates).x
-  kept_lengths (alone cert) kept = record {
-    count = kept.kept.lengths.count ∙ (kept.kept.lengths.of_layout.long ∙ sym is.long);
-    small = writable_short cert kept.kept.lengths.writable;
-  }
+  kept_lengths (alone cert) kept = search (rules, writable_short)
   kept_lengths (raised first cert) kept = cc kept.kept.0
   kept_lengths (risen first rises after) kept = cc kept.kept.0
 
@@ -96,7 +91,4 @@ module _ (size : ℕ) {input out : Change} (unread : IsUnread input) where
 
   -- A mesh that is no manifold ends it.
   pub made_ended : (r : Refusal) → IsNoMeshOf (steps_soup size) r → Ended (Bench size) input out r
-  made_ended (NotManifold named) none =
-      place_ended [] (steps_soup size) (unread, refl) (none.0, none.1) refl none.2 unread.1
-  made_ended refusals.Memory none = memory_ended
-  made_ended _ none = absurd none
+  made_ended r h1 = search rules

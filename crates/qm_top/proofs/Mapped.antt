@@ -1,10 +1,10 @@
 -- What `map` and `check` keep: the map of a new mesh or the line that accepts a pair is written, or a refusal has its
 -- cause.
-use Rattle.std.proofs.Common.{◌≡◌, ◌≢◌, take, inl, inr}
-use Rattle.def_io.specs.{Bytes.Bytes, Lines.lines_of, Moves.Change, declared.fails.WriteFail.WriteFail}
+use Rattle.std.proofs.Common.{rules, ◌≡◌, ◌≢◌, inl, inr}
+use Rattle.def_io.specs.{Bytes.Bytes, Moves.Change, declared.fails.WriteFail.WriteFail}
 use Rattle.def_run.specs.Checking.{HasFitText, IsAcceptedText, RefusesToCheck, WritesAccepted}
 use Rattle.def_run.specs.MapFails.{HasLineFail, IsMapFail, RefusesFrontMarks, RefusesFrontText}
-use Rattle.def_run.specs.declared.command.Command.TheVariants.{Check, Crease, Fit, Map}
+use Rattle.def_run.specs.declared.command.Command.TheVariants.{Check, Map}
 use Rattle.def_run.specs.{Causes.Cause, Causes.Reads, Causes.Refused, Causes.Refuses, Map.HasMap, Map.RefusesNew}
 use Rattle.def_run.specs.{Map.RefusesToMap, Map.WritesMap, Check.RefusesOldText, Check.RefusesPair}
 use Rattle.def_run.specs.{CheckFails.IsCheckFail, CheckFails.IsPairFail, MarkLines.front_of, Messages.HasFrontSoup}
@@ -13,8 +13,7 @@ use Rattle.def_run.specs.{declared.command.Command.Command}
 use Rattle.def_text.specs.{FaceSet.FaceSet, Input.ReadWhole, declared.limits.TheConstants.MAX_BYTES}
 use Rattle.def_text.specs.{declared.refusal.ObjFail.ObjFail, declared.refusal.Which.TheVariants.Bytes as AllBytes}
 use Rattle.qm_check.proofs.Pairs.{headless, old_faulty, old_refused}
-use Rattle.qm_top.proofs.{NeverBytes.never_bytes, Refusals.ended, Refusals.lines_refuse, Refusals.place_ended}
-use Rattle.qm_top.proofs.{Refusals.IsWriter}
+use Rattle.qm_top.proofs.{NeverBytes.never_bytes, Refusals.ended, Refusals.place_ended, Refusals.IsWriter}
 use Rattle.qm_top.specs.declared.refusal.Refusal.TheVariants.{NotAccepted, Soup, NotManifold, Marks, Layout, Far}
 use Rattle.qm_top.specs.{Checking.IsNoPairFor, Checking.IsPlaced, Checking.IsUnaccepted, Mapping.IsNoMapFor}
 use Rattle.qm_top.specs.{Refusals.answer_of_marks, Refusals.answer_of_obj, Refusals.Ended}
@@ -35,16 +34,12 @@ map_placed bytes (check_fail.NotManifold place soup) is = is.0.fault
 map_placed bytes _ is = tt
 
 pub check_placed : (bytes : Bytes) (fail : CheckFail) → IsCheckFail bytes fail → IsPlaced fail
-check_placed bytes fail (inl (fit, is)) = map_placed bytes fail is
-check_placed bytes (check_fail.NotManifold place soup) (inr (other, is)) = is.0.fault
-check_placed bytes _ (inr (other, is)) = tt
+check_placed bytes fail h1 = search rules
 
 -- A command refuses a text whose lines beside its mesh are refused.
 new_refused : (command : Command) (front : Bytes) (fail : MarkFail) → fail ≢ marks.Memory
     → HasLineFail command front fail → RefusesNew command front (answer_of_marks fail)
-new_refused (Crease settings) front fail other has = lines_refuse (Crease settings) front fail other has
-new_refused (Fit fit) front fail other has = lines_refuse (Fit fit) front fail other has
-new_refused _ front fail other has = absurd has
+new_refused command front h1 h2 = search rules
 
 -- A command that read these bytes refuses them as `map` does, and looks at the mesh in front of the same line.
 module _ (command : Command) (input out : Change) (bytes : Bytes) (whole : Reads command input bytes)
@@ -58,11 +53,9 @@ module _ (command : Command) (input out : Change) (bytes : Bytes) (whole : Reads
   -- The refusal of the text in front has its cause.
   front_cause : (fail : ObjFail) → RefusesFrontText bytes fail → (¬ HasMap bytes)
       → Cause command input out (answer_of_obj fail)
-  front_cause (obj.Limit AllBytes line) none never =
-      absurd (never_bytes 1 (lines_of (front_of none.line bytes)) line none.said)
+  front_cause (obj.Limit AllBytes line) none never = search (rules, never_bytes)
   front_cause obj.Memory none never = tt
-  front_cause _ none never =
-      refused _ (inl (record { line = none.line; divided = none.divided; none = none.said }), never)
+  front_cause _ none never = search (rules, inl)
 
   -- So has that of the lines beside its mesh.
   marks_cause : (fail : MarkFail) → RefusesFrontMarks bytes fail → fail ≢ marks.Memory → (¬ HasMap bytes)
@@ -116,15 +109,13 @@ module _ {input : Change} (out : Change) {bytes : Bytes} (whole : ReadWhole MAX_
   -- The refusal of the old text has its cause.
   old_cause : ¬ HasFitText bytes → (fail : ObjFail) → RefusesOldText bytes fail
       → Cause Check input out (answer_of_obj fail)
-  old_cause other (obj.Limit AllBytes line) none =
-      absurd (never_bytes 1 (take none.line (lines_of bytes)) line none.said)
+  old_cause other (obj.Limit AllBytes line) none = search (rules, never_bytes)
   old_cause other obj.Memory none = tt
   old_cause other _ none = record { bytes = bytes; whole = whole; said = inr (other, none) }
 
   -- A pair that is not accepted ends the command, and so does a text of `fit` that is not.
   unpaired_ends : ¬ HasFitText bytes → (r : Refusal) → IsNoPairFor bytes r → Ended Check input out r
-  unpaired_ends other (NotAccepted why) none =
-      ended tt (record { bytes = bytes; whole = whole; said = inr (other, none) }) calm
+  unpaired_ends other (NotAccepted why) none = search rules
   unpaired_ends other (Soup (soup.Obj fail)) none = ended tt (old_cause other fail none.0) calm
   unpaired_ends other (NotManifold named) none =
       let fault = none.fault in
@@ -138,8 +129,7 @@ module _ {input : Change} (out : Change) {bytes : Bytes} (whole : ReadWhole MAX_
           refuted = fault.refuted;
         },
       )) (inr (other, (fault.line, fault.old))) none.numbers calm
-  unpaired_ends other (Layout (layouts.Tangled count)) none =
-      ended tt (record { bytes = bytes; whole = whole; said = inr (other, none) }) calm
+  unpaired_ends other (Layout (layouts.Tangled count)) none = search (rules, ended, inr)
   unpaired_ends other refusals.Memory none = ended tt tt calm
   unpaired_ends other _ none = absurd none
 
@@ -177,8 +167,7 @@ pair_not_refused bytes (answers.Syntax line) pair none = old_refused bytes (obj.
 pair_not_refused bytes (answers.NotQuad line corners) pair none = old_refused bytes (obj.NotQuad line corners) none pair
 pair_not_refused bytes (answers.Range line) pair none = old_refused bytes (obj.Range line) none pair
 pair_not_refused bytes (answers.Limit which line) pair none = old_refused bytes (obj.Limit which line) none pair
-pair_not_refused bytes (answers.NotManifold place) pair none =
-    old_faulty bytes none.line none.soup none.old none.refuted pair
+pair_not_refused bytes (answers.NotManifold place) pair none = search (rules, old_faulty)
 pair_not_refused bytes (answers.Tangled count) pair none = none.refuted pair
 pair_not_refused bytes _ pair none = absurd none
 

@@ -1,6 +1,6 @@
 -- Where the faces of a soup first fail to be a manifold, each vertex has a number.
-use Rattle.std.proofs.Common.{◌≡◌, ℕ, suc, ◌+◌, ◌*◌, ◌%◌, ◌<◌, Bool, true, false, cond, eqb, ltb, List, [], ◌∷◌, length}
-use Rattle.std.proofs.Common.{get_or, Some, subst, ap, ◌∙◌, refl, inl, inr, arith}
+use Rattle.std.proofs.Common.{rules, ◌≡◌, ℕ, suc, ◌+◌, ◌*◌, ◌%◌, ◌<◌, Bool, true, false, cond, eqb, ltb, List, [], ◌∷◌}
+use Rattle.std.proofs.Common.{length, get_or, Some, subst, ap, ◌∙◌, refl, inl, inr, arith}
 use Rattle.std.proofs.{lemmas.Bool.and_from, lemmas.Bool.cases_lt, lemmas.Bool.lt-ltb, lemmas.Option.none-some}
 use Rattle.std.proofs.{lemmas.Option.same_Some}
 use Rattle.def_mesh.specs.declared.Place.TheVariants.{Repeated, EdgeTwice, TwoFans}
@@ -8,7 +8,7 @@ use Rattle.def_mesh.specs.{Faces.corner, Faces.face_at, Darts.from_of, Faults.re
 use Rattle.def_mesh.specs.{declared.Place.Place}
 use Rattle.{std.specs.List.list_all, std.specs.List.list_any, def_text.specs.FaceSet.FaceSet}
 use Rattle.{def_text.specs.FaceSet.IsSoup, def_written.specs.Laws.AreQuads, qm_mesh.proofs.Vertices.below_from}
-use Rattle.{qm_mesh.proofs.Vertices.end_low, qm_mesh.specs.Tables.NamesBelow, qm_top.specs.Named.IsNamed}
+use Rattle.{qm_mesh.specs.Tables.NamesBelow, qm_top.specs.Named.IsNamed}
 
 -- What is repeated stands in the list.
 repeat_low : (n : ℕ) (seen vs : List ℕ) (v : ℕ) → repeat_after seen vs ≡ Some v
@@ -39,9 +39,7 @@ module _ (s : FaceSet) (soup : IsSoup s) (quads : AreQuads s.faces) where
       ap (λ g. corner s.faces g ((4 * f + j) % 4)) (omega (arith, l, four))
       ∙ ap (corner s.faces f) (omega (arith, l, four)) in
       subst (λ k. k < length s.pos) e (within (4 * f + j) (omega (arith, l, four, fault.is_face)))))
-  named_where (EdgeTwice from to face1 face2) (free, (d, e, twice)) = and_from _ _
-      (lt-ltb from _ (omega (arith, soup.named, twice.start, within e twice.first.is_dart)))
-      (one_named to (omega (arith, twice.end, end_low s.faces (length s.pos) e within twice.first.is_dart)))
+  named_where (EdgeTwice from to face1 face2) (free, (d, e, twice)) = search (rules, within)
   named_where (TwoFans v) fault = elim (cases_lt v (length s.pos)) [
     | inl l ↦ one_named v l
     | inr high ↦ absurd (fault.2.two_fans (λ d e ld le is other. absurd (omega (arith, high, is, within d ld))))

@@ -1,6 +1,6 @@
 -- What `refine`, `blocks`, `layout` and `grids` keep.
-use Rattle.std.proofs.Common.{◌≡◌, ℕ, ◌<◌, ◌≤◌, Bool, List, Option, None, Result, Ok, Err, sym, ap, ◌∙◌, subst, refl}
-use Rattle.std.proofs.Common.{arith}
+use Rattle.std.proofs.Common.{rules, ◌≡◌, ℕ, ◌<◌, ◌≤◌, Bool, List, Option, None, Result, Ok, Err, sym, ap, ◌∙◌, subst}
+use Rattle.std.proofs.Common.{refl, arith}
 use Rattle.def_cuttext.specs.{LayoutText.layout_text, GridsText.chosen_text, declared.chosen.Chosen.Chosen}
 use Rattle.def_layout.specs.{Arcs.long_at, Layouts.gluing_of, Layouts.vertex_at}
 use Rattle.def_patches.specs.{Chosen.IsChosenLayout, declared.Keep.Keep, declared.Patches.Patches}
@@ -19,12 +19,11 @@ use Rattle.qm_top.specs.{LayingOut.FailsNever, Refining.FailsBy, Refining.FailsT
 use Rattle.qm_top.specs.{Refining.ShowsRefined, Refusals.answer_of_layout, Writing.IsOfLayout}
 use Rattle.qm_top.proofs.Refusals.{layout_ends, IsWriter}
 use Rattle.{std.specs.Prelude.IfOk, std.specs.Prelude.OnOk, def_fit.specs.FitTasks.kept_in, def_io.specs.Bytes.Bytes}
-use Rattle.{def_io.specs.Moves.Change, def_mesh.specs.Faces.Faces, def_mesh.specs.Manifold.IsManifold}
-use Rattle.{embedding_laws.proofs.Bounds.laid_of, qm_blocktext.specs.declared.blocks.Blocks.Blocks}
-use Rattle.{qm_refine.proofs.Multiplied.are_multiples, remesh_laws.proofs.ReadAgain.refined_read}
+use Rattle.{def_io.specs.Moves.Change, def_mesh.specs.Manifold.IsManifold, embedding_laws.proofs.Bounds.laid_of}
+use Rattle.{qm_blocktext.specs.declared.blocks.Blocks.Blocks, qm_refine.proofs.Multiplied.are_multiples}
+use Rattle.{remesh_laws.proofs.ReadAgain.refined_read}
 use Rattle.def_remesh.specs.declared.kept.LayoutFail.TheVariants as layouts
 use Rattle.def_run.specs.declared.command.Command.TheVariants as commands
-use Rattle.def_run.specs.declared.answer.Answer.TheVariants as answers
 
 -- ---- The mesh of `refine`.
 
@@ -67,11 +66,7 @@ is_refined {by} {soup} {new} some few are = subst (λ (s : FaceSet). ShowsRefine
     shape : IsMeshLayout soup.faces new.layout
         → KeepsShape soup.faces (new_faces (gluing_of new.layout) (multiple_of by (long_at new.layout.arcs)))
         (gluing_of new.layout).nodes (vertex_at new.layout)
-    shape (is, same) = subst
-        (λ (fs : Faces). KeepsShape fs (new_faces (gluing_of new.layout) (multiple_of by (long_at new.layout.arcs)))
-        (gluing_of new.layout).nodes (vertex_at new.layout))
-        same
-        (are.shape is.faces is.marks is.mesh is.quads is.cut is.laid)
+    shape (is, same) = search rules
 
 -- ---- What `refine` and `blocks` keep once their mesh is read.
 
@@ -81,12 +76,7 @@ module _ (by : ℕ) {input : Change} (out : Change) {soup : FaceSet} (manifold :
   fails_as : (command : Command) → Reads command input read.bytes
       → ((answer : Answer) → RefusesToRefine by read.bytes answer → Refuses command read.bytes answer)
       → (fail : LayoutFail) → FailsToRefine by soup fail → Cause command input out (answer_of_layout fail)
-  fails_as command whole says (layouts.TooFine faces kept) (layout, cut, why) = record {
-    bytes = read.bytes;
-    whole = whole;
-    said = says (answers.TooFine faces kept)
-        (layout, record { soup = soup; mesh = record { said = read.said; manifold = manifold }; cut = cut }, why);
-  }
+  fails_as command whole says (layouts.TooFine faces kept) (layout, cut, why) = search rules
   fails_as command whole says layouts.Memory why = tt
   fails_as command whole says _ none = absurd none
 

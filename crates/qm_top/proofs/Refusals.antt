@@ -1,25 +1,22 @@
 -- Refusals of the steps of a run as answers with their causes, and what a command keeps that writes a text.
-use Rattle.std.proofs.Common.{Err, List, Ok, Result, [], ap, arith, inl, inr, length, refl, subst, sym, ℕ, ◌++◌, ◌-◌}
-use Rattle.std.proofs.Common.{◌∙◌, ◌∷◌, ◌≡◌, ◌≢◌}
-use Rattle.std.proofs.lemmas.List.{take_all}
+use Rattle.std.proofs.Common.{rules, Err, List, Ok, Result, [], ap, arith, length, refl, subst, sym, ℕ, ◌++◌, ◌-◌, ◌∙◌}
+use Rattle.std.proofs.Common.{◌∷◌, ◌≡◌, ◌≢◌}
+use Rattle.{std.proofs.lemmas.List.take_all, def_layout.specs.FaceLayouts.IsCutLayout, def_layout.specs.Layouts.Layout}
 use Rattle.std.specs.Prelude.{IfErr, IfOk, IsErrAnd, IsErrOf, OnOk, slice_range}
 use Rattle.def_certtext.specs.{CertLines.certificates_of, CertLines.used, declared.certs.Terms.Terms}
 use Rattle.def_io.specs.{Moves.Change, Moves.GaveMore, Moves.IsStill, Moves.Stream, Moves.TookPrefix, Moves.took}
-use Rattle.def_io.specs.{Bytes.Bytes, Bytes.Lines, Faults.Rose, Lines.lines_of, declared.fails.WriteFail.WriteFail}
-use Rattle.def_layout.specs.{FaceLayouts.IsCutLayout, Layouts.Layout}
+use Rattle.def_io.specs.{Bytes.Bytes, Bytes.Lines, Faults.Rose, declared.fails.WriteFail.WriteFail}
 use Rattle.def_mesh.specs.{Manifold.IsManifold, declared.Place.Place}
 use Rattle.def_remesh.specs.{Keeping.IsKept, NewPoints.lengths_in, Placings.IsMeshLayout, Tasks.Task, Tasks.Wish}
 use Rattle.def_remesh.specs.{declared.kept.LayoutFail.LayoutFail}
 use Rattle.def_run.specs.Causes.{Cause, FailsToRead, Reads, ReadsTooMany, Refuses, Writes}
-use Rattle.def_run.specs.declared.command.Command.TheVariants.{Bench, Check, Coarse, Crease, Fit, Grids, LayOut, Map}
-use Rattle.def_run.specs.declared.command.Command.TheVariants.{Remesh, Size}
+use Rattle.def_run.specs.declared.command.Command.TheVariants.{Bench, Check, Crease, Fit, Grids, LayOut, Map}
 use Rattle.def_run.specs.{Messages.AreNames, Messages.LooksAt, Messages.Said, Messages.SaidWhy, CommandLines.IsCommand}
 use Rattle.def_run.specs.{Crease.HasMarkFail, ErrorLines.error_line, Fit.HasAsideFail, LayOut.HasKeptFail}
 use Rattle.def_run.specs.{Mesh.IsMeshText, Mesh.IsNoMesh, Reread.Rereads, declared.answer.Answer.Answer}
 use Rattle.def_run.specs.{declared.command.Command.Command, declared.words.WordsFail.WordsFail}
 use Rattle.def_text.specs.{FaceSet.FaceSet, Fails.of_obj, Input.ReadRefused, Input.ReadWhole, Text.soup_in, Types.Words}
 use Rattle.def_text.specs.{declared.limits.TheConstants.MAX_BYTES, declared.refusal.ObjFail.ObjFail}
-use Rattle.def_text.specs.{declared.refusal.Which.TheVariants.Bytes as AllBytes}
 use Rattle.qm_top.specs.Refusals.{Ended, IsInputRefusal, IsNoMeshOf, answer_of, answer_of_layout, answer_of_marks}
 use Rattle.qm_top.specs.Refusals.{answer_of_obj, answer_of_words, names_of}
 use Rattle.qm_top.specs.Writing.{BrokeText, IsOfLayout, IsUnwritten, WroteText, refusal_of_put}
@@ -31,7 +28,6 @@ use Rattle.qm_write.specs.{declared.text.PutFail.PutFail}
 use Rattle.{def_marks.specs.declared.fail.MarkFail.MarkFail, qm_top.proofs.NeverBytes.never_bytes}
 use Rattle.{qm_write.proofs.Framing.text_is, remesh_laws.proofs.Keeps.shown, remesh_laws.specs.Keeps.ShowsTask}
 use Rattle.def_marks.specs.declared.fail.MarkFail.TheVariants as marks
-use Rattle.def_remesh.specs.declared.kept.LayoutFail.TheVariants as layouts
 use Rattle.def_run.specs.declared.answer.Answer.TheVariants as answers
 use Rattle.def_run.specs.declared.words.WordsFail.TheVariants as words
 use Rattle.def_text.specs.declared.refusal.ObjFail.TheVariants as obj
@@ -46,11 +42,7 @@ IsNameless (NotManifold named) = ⊥
 IsNameless _ = Unit {0}
 
 nameless : (r : Refusal) (place : Place) → IsNameless r → answer_of r ≡ answers.NotManifold place → ⊥
-nameless (NotManifold named) place other is = other
-nameless (Soup (soup.Obj obj.Memory)) place other is = cc
-nameless (Marks marks.Memory) place other is = cc
-nameless (refusals.Layout layouts.Memory) place other is = cc
-nameless _ place other is = cc
+nameless r place h1 h2 = search rules
 
 -- A refusal that names no place ends a command whose source has no new fault.
 pub ended : {command : Command} {input out : Change} {r : Refusal} → IsNameless r
@@ -62,11 +54,7 @@ ended {r = r} other cause calm =
 pub place_ended : {command : Command} {input out : Change} {named : NamedPlace} (bytes : Bytes) (soup : FaceSet)
     → Reads command input bytes → Refuses command bytes (answers.NotManifold named.place) → LooksAt command bytes soup
     → named.names.items ≡ soup.names → input.faults_now ≡ input.faults → Ended command input out (NotManifold named)
-place_ended bytes soup whole said looks numbers calm = record {
-  cause = record { bytes = bytes; whole = whole; said = said };
-  names = λ p is. record { bytes = bytes; whole = whole; soup = soup; looks = looks; numbers = numbers };
-  calm = λ f m. calm;
-}
+place_ended bytes soup whole said looks numbers calm = search rules
 
 -- So does want of memory.
 pub memory_ended : {command : Command} {input out : Change} → Ended command input out refusals.Memory
@@ -82,20 +70,7 @@ TakesMesh _ = Unit {0}
 
 no_mesh : (command : Command) (bytes : Bytes) (answer : Answer) → TakesMesh command → IsNoMesh bytes answer
     → Refuses command bytes answer
-no_mesh Check bytes answer takes none = absurd takes
-no_mesh (Bench size) bytes answer takes none = absurd takes
-no_mesh Map bytes answer takes none = absurd takes
-no_mesh _ bytes (answers.TooFine faces kept) takes none = absurd none
-no_mesh _ bytes (answers.Far sum) takes none = absurd none
-no_mesh _ bytes (answers.Tangled count) takes none = absurd none
-no_mesh (Crease settings) bytes _ takes none = inr (inl none)
-no_mesh (Fit fit) bytes _ takes none = inr (inl none)
-no_mesh (Remesh settings auto) bytes _ takes none = inl none
-no_mesh (Size edge floor) bytes _ takes none = inl none
-no_mesh (Coarse settings) bytes _ takes none = inl none
-no_mesh (LayOut keep patches) bytes _ takes none = inl none
-no_mesh (Grids keep patches by) bytes _ takes none = inl none
-no_mesh _ bytes _ takes none = none
+no_mesh command bytes h1 h2 = search rules
 
 pub record NeedsMesh (command : Command) : Type 0 where
   pub refuses : (bytes : Bytes) (answer : Answer) → IsNoMesh bytes answer → Refuses command bytes answer
@@ -127,29 +102,17 @@ HasLineFailOf _ bytes fail = ⊥
 
 pub lines_refuse : (command : Command) (bytes : Bytes) (fail : MarkFail) → fail ≢ marks.Memory
     → HasLineFailOf command bytes fail → Refuses command bytes (answer_of_marks fail)
-lines_refuse command bytes marks.Memory other has = absurd (other refl)
-lines_refuse (Crease settings) bytes _ other has = inl has
-lines_refuse (Fit fit) bytes _ other has = inl has
-lines_refuse (LayOut keep patches) bytes _ other has = inr has
-lines_refuse (Grids keep patches by) bytes _ other has = inr has
-lines_refuse _ bytes _ other has = absurd has
+lines_refuse command bytes h1 h2 = search rules
 
 module _ (command : Command) (takes : TakesMesh command) (input out : Change) where
   -- The refusal of a text has its cause.
   text_cause : (fail : ObjFail) → ReadRefused MAX_BYTES input.told input.told_now fail
       → Cause command input out (answer_of_obj fail)
-  text_cause (obj.Limit AllBytes line) read = absurd (never_bytes 1 (lines_of read.bytes) line read.said)
-  text_cause obj.Memory read = tt
-  text_cause fail read = record {
-    bytes = read.bytes;
-    whole = (needs command takes).reads input read.bytes read.whole;
-    said = (needs command takes).refuses read.bytes (answer_of_obj fail) read.said;
-  }
+  text_cause fail h1 = search (rules, never_bytes)
 
   -- A refusal of the input ends such a command.
   input_ended : (r : Refusal) → IsInputRefusal input r → Ended command input out r
-  input_ended (Soup soup.Fault) why =
-      record { cause = (needs command takes).fails input why; names = λ p is. cc; calm = λ f m. absurd (f refl) }
+  input_ended (Soup soup.Fault) why = search rules
   input_ended (Soup soup.TooLong) why = ended tt (refl, (needs command takes).too_many input why.0) why.1
   input_ended (Soup (soup.Obj fail)) why = ended tt (text_cause fail why.0) why.2
   input_ended (Soup soup.Memory) why = record { cause = tt; names = λ p is. cc; calm = λ f m. absurd (m refl) }
@@ -197,13 +160,7 @@ module _ {O : Type 0} {command : Command} {input : Change} {out : Stream O} {res
   -- A refusal that is handed on ends the command as it was, where nothing was written.
   pub handed_run : (r : Refusal) → IsErrAnd result (λ e. e ≡ r) → Ended command input out.change r → IsStill out
       → HasRun command input out result
-  handed_run = by_result result
-    where
-      by_result : (result : Result (Unit {0}) Refusal) (r : Refusal) → IsErrAnd result (λ e. e ≡ r)
-          → Ended command input out.change r → IsStill out → HasRun command input out result
-      by_result (Ok x) r is ended same = absurd is
-      by_result (Err e) r is ended same =
-          record { done = tt; refused = subst (Ended command input out.change) (sym is) ended; untouched = λ _. same }
+  handed_run = search rules
 
   -- The input has no mesh.
   pub halts : (r : Refusal) → TakesMesh command → IsErrAnd result (λ e. e ≡ r) → IsInputRefusal input r → IsStill out
@@ -258,29 +215,18 @@ whole_range xs n is = let e : n - 0 ≡ n = omega arith in rw e (take_all n xs (
 -- A text that has no soup has no mesh.
 pub soupless : (bytes : Bytes) (fail : ObjFail) → (fail ≢ obj.Memory → soup_in bytes ≡ Err fail)
     → IsMeshless bytes (Soup (of_obj fail))
-soupless bytes obj.Memory said = tt
-soupless bytes (obj.Syntax line) said = (said (λ e. cc), λ e. cc)
-soupless bytes (obj.NotQuad line corners) said = (said (λ e. cc), λ e. cc)
-soupless bytes (obj.Range line) said = (said (λ e. cc), λ e. cc)
-soupless bytes (obj.Limit which line) said = (said (λ e. cc), λ e. cc)
+soupless bytes fail h1 = search rules
 
 -- Nor has one whose soup is no mesh.
 pub no_mesh_of : (bytes : Bytes) (soup : FaceSet) (r : Refusal) → soup_in bytes ≡ Ok soup → IsNoMeshOf soup r
     → IsMeshless bytes r
-no_mesh_of bytes soup (NotManifold named) said why = record { soup = soup; said = said; why = why }
-no_mesh_of bytes soup refusals.Memory said why = tt
-no_mesh_of bytes soup _ said why = absurd why
+no_mesh_of bytes soup h1 h2 = search rules
 
 -- A text with this soup, whose faces are a manifold.
 pub text_meshed : (bytes : Bytes) (soup : FaceSet) (result : Result FaceSet Refusal) → soup_in bytes ≡ Ok soup
     → IfOk result (λ read. read ≡ soup) → OnOk result (IsManifold soup.faces)
     → IfOk result (λ read. IsMeshText bytes read)
-text_meshed bytes soup (Ok read) said same manifold =
-    record {
-      said = said ∙ ap Ok (sym same);
-      manifold = subst (λ (s : FaceSet). IsManifold s.faces) (sym same) manifold;
-    }
-text_meshed bytes soup (Err r) said same manifold = tt
+text_meshed bytes soup h1 h2 h3 = search rules
 
 -- A text that was written whole, and one that was not.
 pub wrote : {says : Bytes → Type 0} {out : Change} (text : Bytes) → says text → out.told_now ≡ took out.told text
@@ -305,14 +251,7 @@ module _ {O : Type 0} {command : Command} {says : Bytes → Type 0} {why : Refus
     (out : Stream O) (is : IsWriter command says why input out.change) where
   -- A text that was not written whole ends the command.
   unwritten_ends : (r : Refusal) → IsUnwritten says why out r → Ended command input out.change r
-  unwritten_ends (Write fail) broke = ended tt (record {
-    bytes = is.bytes;
-    whole = is.whole;
-    text = broke.text;
-    said = is.writes broke.text broke.said;
-    prefix = broke.prefix;
-    fault = broke.fault;
-  }) is.calm
+  unwritten_ends (Write fail) broke = search rules
   unwritten_ends r none = is.ends r none.1
 
   -- The sink is as it was, unless the write failed.
@@ -344,9 +283,7 @@ pub layout_ends : {command : Command} {fails : LayoutFail → Type 0} {input out
     → input.faults_now ≡ input.faults
     → ((fail : LayoutFail) → fails fail → Cause command input out (answer_of_layout fail))
     → (r : Refusal) → IsOfLayout fails r → Ended command input out r
-layout_ends calm refuses (refusals.Layout fail) why = ended tt (refuses fail why) calm
-layout_ends calm refuses refusals.Memory why = ended tt tt calm
-layout_ends calm refuses _ why = absurd why
+layout_ends h1 h2 r h3 = search rules
 
 -- Where no text is begun the sink is as it was.
 pub not_begun : {O : Type 0} (says : Bytes → Type 0) (why : Refusal → Type 0) (out : Stream O)
@@ -368,30 +305,14 @@ pub put_refused : {O : Type 0} (says : Bytes → Type 0) (why : Refusal → Type
     → TookPrefix out.change.told out.change.told_now text)
     → (IsErrOf {T = Unit {0}} (Err fail) puts.Stopped → Rose out.change.faults out.change.faults_now)
     → (IsErrOf {T = Unit {0}} (Err fail) puts.Memory → IsStill out) → IsUnwritten says why out (refusal_of_put fail)
-put_refused says why out text puts.Stopped said memory prefix rose same =
-    record { text = text; said = said; prefix = prefix refl; fault = rose refl }
-put_refused says why out text puts.Memory said memory prefix rose same = (same refl, memory)
-
--- A text that was not written is not, whatever it says besides, and whatever layouts are refused besides.
-pub unwritten_weaker : {O : Type 0} (says more : Bytes → Type 0) (fails others : LayoutFail → Type 0) (out : Stream O)
-    → ((text : Bytes) → says text → more text) → ((fail : LayoutFail) → fails fail → others fail) → (r : Refusal)
-    → IsUnwritten says (IsOfLayout fails) out r → IsUnwritten more (IsOfLayout others) out r
-unwritten_weaker says more fails others out weaker besides (refusals.Layout fail) none = (none.0, besides fail none.1)
-unwritten_weaker says more fails others out weaker besides (Write fail) broke =
-    record { text = broke.text; said = weaker broke.text broke.said; prefix = broke.prefix; fault = broke.fault }
-unwritten_weaker says more fails others out weaker besides refusals.Memory same = same
-unwritten_weaker says more fails others out weaker besides _ none = absurd none.1
+put_refused says h1 h2 h3 h4 h5 = search rules
 
 -- What is kept for what was asked is kept for what it tells.
 pub kept_for : {wish : Wish} {layout : Layout} (remesh : NewMesh) {terms : Terms} → remesh.terms ≡ terms
     → IsKept wish layout terms.settings terms.rising (certificates_of remesh.certs) remesh.numbering
     → (w : Wish) × IsKept w layout remesh.terms.settings remesh.terms.rising (certificates_of remesh.certs)
     remesh.numbering
-kept_for {wish} {layout} remesh same kept = (
-  wish,
-  subst (λ (t : Terms). IsKept wish layout t.settings t.rising (certificates_of remesh.certs) remesh.numbering)
-      (sym same) kept,
-)
+kept_for {wish} {layout} remesh same kept = search rules
 
 -- The text of a remesh in its frame is that of the task for which it is kept.
 pub framed_shown : (task : Task) (framed : Framed) (soup : FaceSet) (layout : Layout) → IsMeshLayout soup.faces layout

@@ -1,19 +1,16 @@
 -- What a command keeps that remeshes, and one that wishes for lengths which may be too great: `fit`, and `size`.
-use Rattle.std.proofs.Common.{Bool, List, None, Ok, Option, Result, Some, [], ap, arith, codes, false, inr, refl, subst}
-use Rattle.std.proofs.Common.{sym, true, ℕ, ℤ, ◌++◌, ◌<◌, ◌^◌, ◌∙◌, ◌∷◌, ◌≡◌, ◌≢◌, ◌≤◌}
-use Rattle.std.proofs.lemmas.Result.{IfErr-weaker, on_ok_weaker}
+use Rattle.std.proofs.Common.{rules, Bool, List, None, Ok, Option, Result, Some, [], codes, false, inr, refl, subst, ℕ}
+use Rattle.std.proofs.Common.{ℤ, ◌++◌, ◌<◌, ◌^◌, ◌∷◌, ◌≡◌, ◌≤◌}
 use Rattle.std.specs.Prelude.{IfErr, OnOk, unsigned_abs}
-use Rattle.def_certtext.specs.{CertLines.certificates_of, CertLines.used, Risings.may_rise, Risings.third_if}
-use Rattle.def_certtext.specs.{Settings.AreInRange, declared.certs.Rising.Rising}
-use Rattle.def_certtext.specs.{declared.certs.Rising.TheVariants.Never, declared.certs.Rising.TheVariants.Rounds}
+use Rattle.def_certtext.specs.{CertLines.certificates_of, CertLines.used, Settings.AreInRange}
+use Rattle.def_certtext.specs.{declared.certs.Rising.TheVariants.Never}
 use Rattle.def_fit.specs.{Aims.AreAimedNear, Aims.IsFit, Aims.IsFitFail, FitTasks.Asides, FitTasks.asides_in}
 use Rattle.def_fit.specs.{FitTasks.fit_task, FitTasks.kept_text, declared.fit.Aim.Aim}
 use Rattle.def_fit.specs.{declared.fit.Aim.TheVariants.Edge, declared.fit.Fit.Fit as AnyFit}
 use Rattle.def_io.specs.{Moves.Change, Moves.IsStill, Moves.Stream, Bytes.Bytes}
 use Rattle.def_layout.specs.{FaceLayouts.IsCutLayout, Layouts.Layout, Lengths.Lengths}
 use Rattle.def_marks.specs.{Lines.marks_in, MarkedText.marked_text}
-use Rattle.def_metric.specs.{Fails.AreNear, Fails.IsFar, Fails.IsSizeFail, Targets.edge_settings}
-use Rattle.def_metric.specs.{declared.fail.SizeFail.SizeFail}
+use Rattle.def_metric.specs.{Fails.IsFar, Fails.IsSizeFail, Targets.edge_settings, declared.fail.SizeFail.SizeFail}
 use Rattle.def_patches.specs.{Chosen.AreKeptMarks, Chosen.IsChosenLayout, declared.Patches.TheVariants.Traced}
 use Rattle.def_remesh.specs.{Tasks.Task, Tasks.Wish, Tasks.old_lengths, Tasks.remesh_task, CutSoups.CutSoup}
 use Rattle.def_remesh.specs.{Keeping.IsKept, NewPoints.lengths_in, Placings.IsMeshLayout, ReadAgain.lines_between}
@@ -27,7 +24,7 @@ use Rattle.def_run.specs.{declared.answer.Answer.Answer, declared.command.Comman
 use Rattle.def_run.specs.{declared.command.Command.TheVariants.Fit, declared.command.Command.TheVariants.Size}
 use Rattle.def_text.specs.{FaceSet.FaceSet, Input.ReadSoup, declared.limits.TheConstants.MAX_BYTES}
 use Rattle.qm_top.proofs.Asides.{coarse_aside, crease_aside, fit_aside, marked_aside, size_aside}
-use Rattle.qm_top.proofs.Refusals.{TakesMesh, ended, needs, IsWriter, framed_shown, layout_ends, unwritten_weaker}
+use Rattle.qm_top.proofs.Refusals.{TakesMesh, ended, needs, IsWriter, framed_shown, layout_ends}
 use Rattle.qm_top.specs.Writing.{FailsAsked, FailsTask, IsOfLayout, IsUnwritten, ShowsAsked, WroteText}
 use Rattle.qm_top.specs.{Fitting.FailsNear, Fitting.IsFarTask, Fitting.IsOfWishes, Refusals.Ended}
 use Rattle.qm_top.specs.{Refusals.answer_of_layout, Refusals.refusal_of_size, declared.refusal.Refusal.Refusal}
@@ -54,18 +51,7 @@ pub task_reread : {asks : Asks} {bytes text : Bytes} (said : WritesFinished asks
     → said.task ≡ task → IsAside (task.head ++ 10 ∷ [])
     → IsAside (task.between said.shown.finished.layout (lengths_in (used said.shown.finished.certificates).x))
     → IsReadAside asks bytes text said → RereadsTask asks bytes text said
-task_reread said task is head between read =
-    read (subst (λ (t : Task). IsAside (t.head ++ 10 ∷ [])) (sym is) head)
-    (subst (λ (t : Task). IsAside
-    (t.between said.shown.finished.layout (lengths_in (used said.shown.finished.certificates).x))) (sym is)
-    between)
-
--- A task that fails is refused for its layout.
-pub asked_refuses : (asks : Asks) {bytes : Bytes} {soup : FaceSet} (fail : LayoutFail) → fail ≢ layouts.Memory
-    → IsMeshText bytes soup → FailsAsked asks bytes soup fail → RefusesTask asks bytes (answer_of_layout fail)
-asked_refuses asks layouts.Memory other mesh why = absurd (other refl)
-asked_refuses asks {soup = soup} _ other mesh (task, asked, (layout, cut, why)) =
-    inr (task, layout, record { soup = soup; mesh = mesh; asked = asked; cut = cut }, why)
+task_reread said task is head between read = search rules
 
 -- What a command does that asks for a task: it writes it finished, so that it is read again, or refuses it.
 pub record IsTasked (command : Command) (asks : Asks) : Type 0 where
@@ -100,20 +86,11 @@ task_writer {command} {asks} {input} {out} {soup} takes tasked manifold read cal
     refuses : (fail : LayoutFail) → FailsAsked asks read.bytes soup fail
         → Cause command input out (answer_of_layout fail)
     refuses layouts.Memory why = tt
-    refuses fail why = record {
-      bytes = read.bytes;
-      whole = (needs command takes).reads input read.bytes read.whole;
-      said = tasked.refuses read.bytes (answer_of_layout fail) (asked_refuses asks fail (λ e. cc) mesh why);
-    }
+    refuses fail why = search rules
 
 -- ---- The commands that do so.
 
 -- A remesh has no rounds, and its settings may be asked for as floors rise in it.
-pub third_kept : {rising : Rising} (settings : Settings) (auto : Bool) → rising ≡ third_if auto
-    → AreInRange settings auto → (rising ≢ Rounds) × AreInRange settings (may_rise rising)
-third_kept settings true is range = (λ rounds. cc, rw is range)
-third_kept settings false is range = (λ rounds. cc, rw is range)
-
 pub remesh_tasked : {settings : Settings} {auto : Bool} → AreInRange settings auto
     → IsTasked (commands.Remesh settings auto) (AsksToRemesh settings auto)
 remesh_tasked {settings} {auto} range = record {
@@ -158,16 +135,7 @@ pub asked_ends : {O : Type 0} (asks : Asks) {soup read : FaceSet} → soup ≡ r
       refused : (bytes : Bytes)
           → IfErr result (IsUnwritten (ShowsAsked asks bytes read) (IsOfLayout (FailsAsked asks bytes read)) out);
     }
-asked_ends asks {soup} same task asked result out done refused = record {
-  done = λ bytes. subst (λ (s : FaceSet). OnOk result (WroteText (ShowsAsked asks bytes s) out.change)) same
-      (on_ok_weaker result (λ (wrote : WroteText (ShowsTask task soup) out.change).
-      record { text = wrote.text; said = (task, asked bytes, wrote.said); written = wrote.written }) done);
-  refused = λ bytes. subst (λ (s : FaceSet). IfErr result (IsUnwritten (ShowsAsked asks bytes s)
-      (IsOfLayout (FailsAsked asks bytes s)) out)) same
-      (IfErr-weaker result _ _ (unwritten_weaker (ShowsTask task soup) (ShowsAsked asks bytes soup)
-      (FailsTask task soup) (FailsAsked asks bytes soup) out (λ text shown. (task, asked bytes, shown))
-      (λ fail fails. (task, asked bytes, fails))) refused);
-}
+asked_ends asks {soup} same task asked result out done refused = search rules
 
 -- ---- The task of a mesh with marks.
 
@@ -175,11 +143,7 @@ module _ (bytes : Bytes) (cut : CutSoup) {read : FaceSet} {marks given : List Bo
     (said : marks_in bytes read ≡ Ok given) (same : cut.soup ≡ read)
     (chosen : IsChosenLayout cut.soup.faces (Some marks) Traced cut.layout) where
   asked_so : (settings : Settings) → AsksToCrease settings bytes cut.soup (creased_task settings cut.soup.faces marks)
-  asked_so settings = (
-    marks,
-    subst (λ (s : FaceSet). marks_in bytes s ≡ Ok marks) (sym same) (said ∙ ap Ok (sym copied)),
-    refl,
-  )
+  asked_so settings = search rules
 
   marked_on : IsCutLayout cut.soup.faces (marked_cut cut.soup.faces marks) cut.layout
   marked_on = subst (λ (edges : List Bool). IsCutLayout cut.soup.faces edges cut.layout) chosen.1 chosen.2
@@ -238,16 +202,13 @@ aimed_writer {command} {aim} {asks} {near} {input} {out} {soup} takes aimed mani
     mesh = record { said = read.said; manifold = manifold }
 
     refused : (answer : Answer) → Refuses command read.bytes answer → Refused command input answer
-    refused answer said =
-        record { bytes = read.bytes; whole = (needs command takes).reads input read.bytes read.whole; said = said }
+    refused answer said = search rules
 
     refuses : (fail : LayoutFail) → FailsNear asks near read.bytes soup fail
         → Cause command input out (answer_of_layout fail)
     refuses layouts.Memory why = tt
-    refuses (layouts.Tangled count) why = refused (answers.Tangled count)
-        (aimed.tangled read.bytes count (asked_refuses asks (layouts.Tangled count) (λ e. cc) mesh why))
-    refuses fail why = refused (answer_of_layout fail)
-        (aimed.refuses read.bytes (answer_of_layout fail) tt (asked_refuses near fail (λ e. cc) mesh why))
+    refuses (layouts.Tangled count) why = search rules
+    refuses fail why = search rules
 
     ends : (r : Refusal) → IsOfWishes (FailsNear asks near read.bytes soup) (IsFarTask aim asks read.bytes soup) r
         → Ended command input out r
@@ -282,19 +243,8 @@ module _ {aim : Aim} {asks near : Asks} {bytes : Bytes} {cut : CutSoup} {task : 
       → IsFitFail aim task.wish cut.layout task.settings task.rising fail
       → IsUnwritten says (IsOfWishes (FailsNear asks near bytes cut.soup) (IsFarTask aim asks bytes cut.soup)) out
       (refusal_of_size fail)
-  fails_for says out still (sizes.Far sum) why = (
-    still,
-    record {
-      task = task;
-      asked = is.asked;
-      layout = cut.layout;
-      cut = is.on;
-      unbounded = why.0;
-      far = why.1;
-    },
-  )
-  fails_for says out still (sizes.Layout (layouts.Tangled count)) why =
-      (still, (task, is.asked, (cut.layout, is.on, why)))
+  fails_for says out still (sizes.Far sum) why = search rules
+  fails_for says out still (sizes.Layout (layouts.Tangled count)) why = search rules
   fails_for says out still (sizes.Layout layouts.Memory) why = (still, tt)
   fails_for says out still (sizes.Layout _) (close, why) = (still, (task, is.nearly close, (cut.layout, is.on, why)))
 
@@ -369,37 +319,14 @@ module _ (fit : AnyFit) (bytes : Bytes) (cut : CutSoup) (asides : Asides) {read 
 
   pub fit_at : IsFullCut cut.soup.faces chosen.0 × IsAimedAt fit.aim (AsksToFit fit) (AsksForNearFit fit) bytes cut
       (fit_task fit cut.soup asides chosen.0)
-  fit_at = (
-    full,
-    record {
-      asked = asked;
-      on = chosen.2;
-      nearly = λ near. (
-        asked,
-        near_on fit.aim (fit_task fit cut.soup asides chosen.0).wish cut chosen.0 laid full
-            chosen.2 near,
-      );
-    },
-  )
-    where
-      asked : AsksToFit fit bytes cut.soup (fit_task fit cut.soup asides chosen.0)
-      asked = (
-        asides,
-        chosen.0,
-        subst (λ (s : FaceSet). asides_in fit bytes s ≡ Ok asides) (sym same) (said ∙ ap Ok (sym parts)),
-        chosen.1,
-        refl,
-      )
+  fit_at = search (rules, full, near_on)
 
 -- ---- `size`.
 
 -- Why a layout is not remeshed with edges of a given length, as the failure of an aim.
 pub size_fail_as : (edge : ℤ) (wish : Wish) (layout : Layout) (floor : ℕ) (fail : SizeFail)
     → IsSizeFail wish layout floor fail → IsFitFail (Edge edge) wish layout (edge_settings floor) Never fail
-size_fail_as edge wish layout floor (sizes.Far sum) far =
-    (λ (near : AreNear wish layout). absurd (omega (arith, near, far.told, far.high)), far)
-size_fail_as edge wish layout floor (sizes.Layout layouts.Memory) why = tt
-size_fail_as edge wish layout floor (sizes.Layout _) why = why
+size_fail_as edge wish h1 = search rules
 
 pub size_aimed : {edge : ℤ} {floor : ℕ} → unsigned_abs edge ≤ 999_999_999_999_999 → floor < 2 ^ 64
     → IsAimed (Size edge floor) (Edge edge) (AsksForSize edge floor) (AsksForNearSize edge floor)

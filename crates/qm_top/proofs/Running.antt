@@ -1,30 +1,26 @@
 -- What a run keeps: bytes that a command takes are not refused, and one that solves finds least lengths.
-use Rattle.std.proofs.Common.{Err, List, None, Ok, Result, Some, [], ap, arith, inl, inr, length, length-append, refl}
-use Rattle.std.proofs.Common.{subst, sym, ℕ, ℤ, ◌++◌, ◌∙◌, ◌≡◌, ◌≢◌, ◌≤◌, ◌⊎◌}
-use Rattle.std.proofs.lemmas.List.{append-nil}
+use Rattle.std.proofs.Common.{rules, Err, List, Ok, Result, Some, [], ap, inl, inr, length, length-append, refl, subst}
+use Rattle.std.proofs.Common.{sym, ℕ, ℤ, ◌∙◌, ◌≡◌, ◌≢◌, ◌≤◌, ◌⊎◌}
 use Rattle.def_certtext.specs.{declared.certs.Rising.Rising, declared.certs.Rising.TheVariants.Never}
-use Rattle.def_fit.specs.{FitTasks.asides_in, FitTasks.kept_in, declared.fit.Fit.Fit as AnyFit}
-use Rattle.def_flow.specs.declared.net.Settings.{Settings}
+use Rattle.def_fit.specs.{FitTasks.asides_in, declared.fit.Fit.Fit as AnyFit}
+use Rattle.{def_flow.specs.declared.net.Settings.Settings, def_marks.specs.declared.fail.MarkFail.MarkFail}
 use Rattle.def_io.specs.{Moves.Change, Moves.GaveMore, Moves.IsEmptied, Moves.IsStill, Moves.Stream, Moves.gave}
 use Rattle.def_io.specs.{Bytes.Bytes, Bytes.Told, Faults.Rose}
-use Rattle.def_marks.specs.{Lines.marks_in, declared.fail.MarkFail.MarkFail}
 use Rattle.def_remesh.specs.{Tasks.Task, Tasks.Wish, Tasks.old_lengths, Refusals.IsRemeshable, Refusals.IsTangledAt}
 use Rattle.def_run.specs.Causes.{Cause, FailsToRead, IsGood, Reads, ReadsTooMany, Refuses, SourceHolds, Takes}
-use Rattle.def_run.specs.Fit.{AsksForNearFit, AsksToFit, HasAsideFail, HasNearAsides, HasNearWishes, RefusesFit}
-use Rattle.def_run.specs.Remesh.{Asks, HasFinished, HasTask, HoldsUntangled, IsSettled, IsTracedLayout, RefusesLayout}
-use Rattle.def_run.specs.Remesh.{RefusesTask}
+use Rattle.def_run.specs.Fit.{AsksForNearFit, AsksToFit, HasAsideFail, HasNearAsides, RefusesFit}
+use Rattle.def_run.specs.{Remesh.Asks, Remesh.HasFinished, Remesh.HasTask, Remesh.HoldsUntangled, Remesh.IsSettled}
+use Rattle.def_run.specs.{Remesh.IsTracedLayout, Remesh.RefusesLayout, Remesh.RefusesTask, Bench.RefusesToBench}
+use Rattle.def_run.specs.{Bench.bench_faces, Bench.bench_settings, Crease.HasMarks, Crease.RefusesMarks, LayOut.HasKept}
+use Rattle.def_run.specs.{LayOut.RefusesToLayOut, Size.AsksForSize, Size.HasNearTargets, Size.RefusesSize}
+use Rattle.def_run.specs.{CommandLines.IsCommand, ErrorLines.error_line, Exits.RunsTo, Exits.WasShort, Mesh.IsMeshText}
+use Rattle.def_run.specs.{Mesh.IsNoMesh, Messages.Said, Solving.IsUntangled, declared.answer.Answer.Answer}
+use Rattle.def_run.specs.{declared.command.Command.Command, declared.words.WordsFail.WordsFail}
 use Rattle.def_run.specs.declared.answer.Answer.TheVariants.{Done, Doubled, Far, Limit, Memory, NotEdge, NotManifold}
 use Rattle.def_run.specs.declared.answer.Answer.TheVariants.{NotQuad, Range, ReadFault, Syntax, Tangled, TooFine, Usage}
 use Rattle.def_run.specs.declared.answer.Answer.TheVariants.{WriteFault}
 use Rattle.def_run.specs.declared.command.Command.TheVariants.{Bench, Blocks, Check, Coarse, Crease, Fit, Graph, Grids}
 use Rattle.def_run.specs.declared.command.Command.TheVariants.{LayOut, Map, Refine, Remesh, Size, Tidy}
-use Rattle.def_run.specs.{Bench.RefusesToBench, Bench.bench_faces, Bench.bench_settings, Crease.HasMarkFail}
-use Rattle.def_run.specs.{Crease.HasMarks, Crease.RefusesMarks, LayOut.HasKept, LayOut.HasKeptFail}
-use Rattle.def_run.specs.{LayOut.RefusesToLayOut, Size.AsksForNearSize, Size.AsksForSize, Size.HasNearTargets}
-use Rattle.def_run.specs.{Size.RefusesSize, CommandLines.IsCommand, ErrorLines.error_line, Exits.RunsTo, Exits.WasShort}
-use Rattle.def_run.specs.{Mesh.IsMeshText, Mesh.IsNoMesh, Messages.Said, Solving.IsUntangled}
-use Rattle.def_run.specs.{declared.answer.Answer.Answer, declared.command.Command.Command}
-use Rattle.def_run.specs.{declared.words.WordsFail.WordsFail}
 use Rattle.def_text.specs.{FaceSet.FaceSet, Types.Words, declared.limits.TheConstants.MAX_BYTES}
 use Rattle.def_text.specs.{declared.refusal.ObjFail.ObjFail, declared.refusal.Which.TheVariants.Bytes as AllBytes}
 use Rattle.qm_top.proofs.{Mapped.accepted_not_refused, Refusals.says_why, Refusals.says_words}
@@ -64,10 +60,7 @@ ByLine fails (NotEdge line) = fails (marks.NotEdge line)
 ByLine fails _ = ⊥
 
 by_line : (fails : MarkFail → Type 0) (answer : Answer) → ((fail : MarkFail) → fails fail → ⊥) → ByLine fails answer → ⊥
-by_line fails (Syntax line) never none = never (marks.Syntax line) none
-by_line fails (Range line) never none = never (marks.Range line) none
-by_line fails (NotEdge line) never none = never (marks.NotEdge line) none
-by_line fails _ never none = absurd none
+by_line fails answer h1 h2 = search rules
 
 -- Lines that are read are not refused.
 read_lines : {A : Type 0} {bytes : Bytes} {a b : FaceSet} {read : A} {fail : MarkFail}
@@ -76,14 +69,11 @@ read_lines : {A : Type 0} {bytes : Bytes} {a b : FaceSet} {read : A} {fail : Mar
 read_lines lines one two said none = cc (ap lines (one_soup one two), said, none)
 
 marks_not_refused : {bytes : Bytes} (answer : Answer) → HasMarks bytes → RefusesMarks bytes answer → ⊥
-marks_not_refused {bytes} answer has =
-    by_line (HasMarkFail bytes) answer (λ fail none. read_lines (marks_in bytes) has.mesh none.mesh has.said none.said)
+marks_not_refused {bytes} answer has = search rules
 
 lay_out_not_refused : {keep : Keep} {bytes : Bytes} (answer : Answer) → HasKept keep bytes
     → RefusesToLayOut keep bytes answer → ⊥
-lay_out_not_refused answer has (inl none) = mesh_not_refused answer has.mesh none
-lay_out_not_refused {keep} {bytes} answer has (inr why) = by_line (HasKeptFail keep bytes) answer
-    (λ fail none. read_lines (kept_in keep bytes) has.mesh none.mesh has.said none.said) why
+lay_out_not_refused h1 h2 h3 = search rules
 
 -- ---- What a refusal of a task says of the answer, where its layouts say so.
 
@@ -98,20 +88,15 @@ task_says Says answer mesh each (inr (task, layout, has, why)) = each task layou
 layout_not_refused : (wish : Wish) (settings : Settings) (rising : Rising) (layout : Layout) (answer : Answer)
     → IsRemeshable wish layout settings rising → RefusesLayout wish layout settings rising answer → ⊥
 layout_not_refused wish settings rising layout (Tangled count) fits why = fits.untangled count why
-layout_not_refused wish settings rising layout (TooFine faces kept) fits why =
-    fits_not_fine wish layout settings rising faces kept fits why
-layout_not_refused wish settings rising layout (Doubled u v cert) fits why =
-    fits_not_doubled wish layout settings rising u v cert fits why
+layout_not_refused wish settings rising layout (TooFine faces kept) fits why = search (rules, fits_not_fine)
+layout_not_refused wish settings rising layout (Doubled u v cert) fits why = search (rules, fits_not_doubled)
 layout_not_refused wish settings rising layout _ fits why = absurd why
 
 -- One that is not too tangled is refused for its least lengths alone.
 layout_settles : (wish : Wish) (settings : Settings) (rising : Rising) (layout : Layout) (answer : Answer)
     → ((count : ℕ) → ¬ IsTangledAt wish layout settings count)
     → RefusesLayout wish layout settings rising answer → IsSettled answer
-layout_settles wish settings rising layout (Tangled count) fits why = absurd (fits count why)
-layout_settles wish settings rising layout (TooFine faces kept) fits why = tt
-layout_settles wish settings rising layout (Doubled u v cert) fits why = tt
-layout_settles wish settings rising layout _ fits why = absurd why
+layout_settles wish settings h1 h2 = search rules
 
 task_not_refused : {asks : Asks} {bytes : Bytes} (answer : Answer) → HasFinished asks bytes
     → RefusesTask asks bytes answer → ⊥
@@ -120,41 +105,27 @@ task_not_refused {asks} answer takes = task_says {asks = asks} (λ a. ⊥) answe
 
 task_settles : {asks : Asks} {left : Told} (held : HoldsUntangled asks left) (answer : Answer)
     → RefusesTask asks held.bytes answer → IsSettled answer
-task_settles {asks} held answer = task_says {asks = asks} IsSettled answer held.mesh (λ task layout has.
-    layout_settles task.wish task.settings task.rising layout answer (held.untangled task layout has))
+task_settles {asks} held answer = search rules
 
 -- What is refused of what is asked for under a condition is refused of all that is asked for.
 near_refused : {bytes : Bytes} (asks near : Asks) (answer : Answer)
     → ((soup : FaceSet) (task : Task) → near bytes soup task → asks bytes soup task) → RefusesTask near bytes answer
     → RefusesTask asks bytes answer
-near_refused asks near answer more (inl none) = inl none
-near_refused asks near answer more (inr (task, layout, has, why)) = inr (
-  task,
-  layout,
-  record { soup = has.soup; mesh = has.mesh; asked = more has.soup task has.asked; cut = has.cut },
-  why,
-)
+near_refused asks near h1 h2 = search rules
 
 -- Targets that are not too great are refused for what is asked of them alone.
 size_says : (Says : Answer → Type 0) (edge : ℤ) (floor : ℕ) {bytes : Bytes} {soup : FaceSet} (answer : Answer)
     → IsMeshText bytes soup → HasNearTargets edge soup
     → (RefusesTask (AsksForSize edge floor) bytes answer → Says answer) → RefusesSize edge floor bytes answer
     → Says answer
-size_says Says edge floor (Far sum) mesh near says is =
-    let here : HasNearTargets edge is.soup = subst (HasNearTargets edge) (one_soup mesh is.mesh) near in
-    absurd (omega (arith, here is.layout is.cut, is.far.told, is.far.high))
+size_says Says edge floor (Far sum) mesh near says is = search rules
 size_says Says edge floor (Tangled count) mesh near says why = says why
-size_says Says edge floor answer mesh near says why =
-    says (near_refused (AsksForSize edge floor) (AsksForNearSize edge floor) answer (λ soup task near. near.0) why)
+size_says Says edge floor answer mesh near says why = search rules
 
 -- So are wishes that are not too great, with lines beside the mesh that are not refused.
 fit_says : (Says : Answer → Type 0) {fit : AnyFit} {bytes : Bytes} (answer : Answer) → HasNearAsides fit bytes
     → (RefusesTask (AsksToFit fit) bytes answer → Says answer) → RefusesFit fit bytes answer → Says answer
-fit_says Says {fit} {bytes} (Far sum) has says is =
-    let same = one_soup has.mesh is.asked.mesh in
-    let near : (task : Task) → AsksToFit fit bytes is.asked.soup task → HasNearWishes fit.aim is.asked.soup task =
-    subst (λ (s : FaceSet). (task : Task) → AsksToFit fit bytes s task → HasNearWishes fit.aim s task) same has.near in
-    absurd (is.unbounded (near is.task is.asked.asked is.layout is.asked.cut))
+fit_says Says {fit} {bytes} (Far sum) has says is = search rules
 fit_says Says (Tangled count) has says why = says why
 fit_says Says {fit} {bytes} answer has says why = elim why [
   | inl lines ↦ absurd (by_line (HasAsideFail fit bytes) answer
@@ -177,8 +148,7 @@ not_both : (command : Command) (bytes : Bytes) (answer : Answer) → Takes comma
     → ⊥
 not_both Tidy bytes answer takes why = mesh_not_refused answer takes.mesh why
 not_both Graph bytes answer takes why = mesh_not_refused answer takes.mesh why
-not_both (Refine by) bytes (TooFine faces kept) takes (layout, cut, fine) =
-    absurd (omega (arith, fine.counted, fine.many, takes.fits layout cut))
+not_both (Refine by) bytes (TooFine faces kept) takes (layout, cut, fine) = search rules
 not_both (Refine by) bytes answer takes why = mesh_not_refused answer takes.mesh why
 not_both (Remesh settings auto) bytes answer takes why = task_not_refused answer takes why
 not_both Check bytes answer takes why = accepted_not_refused bytes answer takes why
@@ -189,15 +159,13 @@ not_both (Crease settings) bytes answer takes (inr why) = task_not_refused answe
 not_both (Size edge floor) bytes answer takes why =
     size_says (λ a. ⊥) edge floor answer takes.finished.mesh takes.near (task_not_refused answer takes.finished) why
 not_both (Coarse settings) bytes answer takes why = task_not_refused answer takes why
-not_both (Blocks by) bytes (TooFine faces kept) takes (layout, cut, fine) =
-    absurd (omega (arith, fine.counted, fine.many, takes.fits layout cut))
+not_both (Blocks by) bytes (TooFine faces kept) takes (layout, cut, fine) = search rules
 not_both (Blocks by) bytes answer takes why = mesh_not_refused answer takes.mesh why
 not_both Map bytes answer takes why = why.1 takes
 not_both (Fit fit) bytes answer takes why =
     fit_says (λ a. ⊥) answer takes.asides (task_not_refused answer takes.finished) why
 not_both (LayOut keep patches) bytes answer takes why = lay_out_not_refused answer takes why
-not_both (Grids keep patches by) bytes (TooFine faces kept) takes (layout, laid_out, fine) =
-    absurd (omega (arith, fine.counted, fine.many, takes.fits layout laid_out))
+not_both (Grids keep patches by) bytes (TooFine faces kept) takes (layout, laid_out, fine) = search rules
 not_both (Grids keep patches by) bytes answer takes why = lay_out_not_refused answer takes.has why
 
 -- What a source holds that is not too tangled is refused for its least lengths alone.
@@ -210,14 +178,7 @@ solved (Bench size) left held = (
   λ answer. bench_says IsSettled size answer held.manifold
       (λ layout cut. layout_settles old_lengths bench_settings Never layout answer (held.untangled layout cut)),
 )
-solved (Crease settings) left held = (
-  held.holds.bytes,
-  (held.holds.held, held.holds.within),
-  λ answer. elim [
-    | inl none ↦ absurd (marks_not_refused answer held.marks none)
-    | inr why ↦ task_settles held.holds answer why
-  ],
-)
+solved (Crease settings) left held = search rules
 solved (Size edge floor) left held = (
   held.held.bytes,
   (held.held.held, held.held.within),
@@ -234,11 +195,7 @@ solved _ left held = absurd held
 -- What a source gave whole is what it held.
 same_bytes : (before now : Told) (bytes held : Bytes) → before ≡ Some held → before ≡ gave bytes now → IsEmptied now
     → bytes ≡ held
-same_bytes before None bytes held told given end = let never : Some held ≡ None = sym told ∙ given in cc
-same_bytes before (Some rest) bytes held told given end =
-    let joined : Some (bytes ++ rest) ≡ Some held = sym given ∙ told in
-    let same : bytes ++ rest ≡ held = cc in
-    sym (append-nil bytes) ∙ ap (λ (xs : List ℕ). bytes ++ xs) (sym end) ∙ same
+same_bytes before now bytes held h1 h2 h3 = search rules
 
 same_read : (command : Command) (input : Change) (bytes held : Bytes) → Reads command input bytes
     → SourceHolds command input.told held → bytes ≡ held
@@ -248,11 +205,7 @@ same_read _ input bytes held read holds = same_bytes input.told input.told_now b
 -- It did not give too many.
 not_too_long : (before now : Told) (held : Bytes) → before ≡ Some held → length held ≤ MAX_BYTES
     → (more : GaveMore MAX_BYTES before now) → before ≡ gave more.piece now → ⊥
-not_too_long before None held told few more given = let never : Some held ≡ None = sym told ∙ given in cc
-not_too_long before (Some rest) held told few more given =
-    let joined : Some (more.piece ++ rest) ≡ Some held = sym given ∙ told in
-    let same : more.piece ++ rest ≡ held = cc in
-    absurd (omega (arith, ap length same, length-append more.piece rest, more.many, few))
+not_too_long before now held h1 h2 more h3 = search (rules, length-append)
 
 not_too_many : (command : Command) (input : Change) (held : Bytes) → SourceHolds command input.told held
     → ReadsTooMany command input → ⊥
@@ -271,14 +224,11 @@ ends_so : (Says : Answer → Type 0) (command : Command) (input out : Change) (a
     → Says answer ⊎ WasShort input out answer
 ends_so Says command input out Done held holds done says why = inl done
 ends_so Says command input out Usage held holds done says why = absurd why
-ends_so Says command input out (Limit AllBytes line) held holds done says why =
-    absurd (not_too_many command input held holds why.1)
+ends_so Says command input out (Limit AllBytes line) held holds done says why = search (rules, not_too_many)
 ends_so Says command input out ReadFault held holds done says why = inr (inr (inl (rose_if command input why)))
 ends_so Says command input out WriteFault held holds done says why = inr (inr (inr why.fault))
 ends_so Says command input out Memory held holds done says why = inr (inl refl)
-ends_so Says command input out answer held holds done says why =
-    inl (says answer (subst (λ (xs : Bytes). Refuses command xs answer)
-    (same_read command input why.bytes held why.whole holds) why.said))
+ends_so Says command input out answer held holds done says why = search (rules, same_read)
 
 -- Good bytes are done.
 pub completes : (command : Command) (input out : Change) (answer : Answer) → Cause command input out answer

@@ -1,10 +1,9 @@
-use Rattle.std.proofs.Common.{arith, inr, refl, ◌∙◌}
+use Rattle.std.proofs.Common.{rules, inr, refl, ◌∙◌}
 use Rattle.{def_layoutnet.specs.Floors.HasFloors, def_flow.specs.Network.network, def_flow.specs.Admissible.entries}
 use Rattle.{error_laws.proofs.Errors.handed, def_certtext.specs.CertLines.lists_of, def_certtext.specs.CertLines.raised}
-use Rattle.qm_layoutnet.proofs.Floors.{floors_at, has_floors, floors_deviation}
+use Rattle.qm_layoutnet.proofs.Floors.{has_floors, floors_deviation}
 use Rattle.def_remesh.specs.{Keeping.IsNetFor, Keeping.IsNetWith, Tasks.Wish}
-use Rattle.qm_check.proofs.Kept.{checkable, unused_by, wrong_of}
-use Rattle.qm_check.proofs.certificates.check_third.Goals.{After-with_floor-higher}
+use Rattle.qm_check.proofs.{Kept.unused_by, Kept.wrong_of, certificates.check_third.Goals.After-with_floor-higher}
 use Rattle.remesh_laws.proofs.Keeps.{third_net, keeps, solved}
 use Rattle.qm_check.proofs.certificates.check_third.Goals as goal
 
@@ -15,13 +14,10 @@ has c = has_floors (network c.args.net) 3 (network c.with_floor-higher.result) c
 higher : (c : After-with_floor-higher) {wish : Wish}
     → IsNetFor wish c.args.cut.now.layout c.args.terms.settings (network c.args.net)
     → IsNetWith wish c.args.cut.now.layout c.args.terms.settings (λ arc. 3) (network c.with_floor-higher.result)
-higher c for = third_net c.args.cut.now.layout c.args.terms.settings (network c.args.net)
-    (network c.with_floor-higher.result) for (has c)
+higher c for = search (rules, third_net, has)
 
 pub check_lengths-requires : goal.check_lengths-requires
-check_lengths-requires c =
-    let net = higher (goal.at.check_lengths-requires c).After-with_floor-higher c.requires.pair.of_layout in
-    record { cert = checkable net c.requires.pair.reach.1 }
+check_lengths-requires c = search (rules, higher)
 
 pub returns-in_err-numbering-clause-unused : goal.returns-in_err-numbering-clause-unused
 returns-in_err-numbering-clause-unused c wish for =
@@ -50,8 +46,4 @@ returns-clause-checked c wish for =
     }
 
 pub unreachable-requires : goal.unreachable-requires
-unreachable-requires c =
-    let gives = rw c.in-Doubled.is at c.in_ok-numbering.ensures.gives in
-    let higher = network c.with_floor-higher.result in
-    let has = has (goal.at.unreachable-requires c).After-with_floor-higher in
-    gives.2 (λ k l. omega (arith, floors_at (network c.args.net) (λ a. 3) higher has k l))
+unreachable-requires c = search (rules, has)

@@ -1,23 +1,13 @@
-use Rattle.{std.proofs.Common.sym, std.proofs.Common.◌∙◌, def_certtext.specs.CertLines.certificates_of}
+use Rattle.std.proofs.Common.{rules, sym}
+use Rattle.{std.proofs.Common.◌∙◌, qm_check.proofs.Reach.told_reach, error_laws.proofs.Errors.handed}
 use Rattle.qm_check.proofs.Verdicts.{finishes, net_is, other, tells_nothing, unused}
-use Rattle.{qm_check.proofs.Reach.told_reach, error_laws.proofs.Errors.handed}
 use Rattle.qm_check.proofs.judging.judge_text.Goals as goal
 
 pub returns-in_err-certs-clause-refused : goal.returns-in_err-certs-clause-refused
-returns-in_err-certs-clause-refused c task is = handed _ _ _ c.from_residual.ensures.1 (tells_nothing
-    c.args.text.now.bytes.now c.args.text.now.head.line is c.in_err-certs.field-0.0 c.in_err-certs.ensures.refused)
+returns-in_err-certs-clause-refused c task is = search (rules, handed, tells_nothing)
 
 pub check_certs-requires : goal.check_certs-requires
-check_certs-requires c =
-    let text = c.args.text.now in
-    record {
-      certs = record {
-        wish = c.requires.ready.0.wish;
-        of_layout = net_is c.requires.ready.1;
-        reach = told_reach text.bytes.now text.head.line c.args.ready.frame.terms.rising
-            (certificates_of c.in_ok-certs.certs) text.few c.in_ok-certs.ensures.told;
-      };
-    }
+check_certs-requires c = search (rules, told_reach)
 
 pub returns-in_err-checked-clause-refused : goal.returns-in_err-checked-clause-refused
 returns-in_err-checked-clause-refused c task is =

@@ -1,28 +1,9 @@
-use Rattle.std.proofs.lemmas.Result.{IfErr-weaker, IfOk-weaker}
-use Rattle.error_laws.proofs.Errors.{handed}
+use Rattle.std.proofs.{Common.rules, lemmas.Result.IfErr-weaker, lemmas.Result.IfOk-weaker}
 use Rattle.qm_check.proofs.{Maps.ready_mesh, Maps.text_fails, Maps.unmade_fails, Tasks.found}
 use Rattle.qm_check.proofs.map.judge_least.Goals as goal
 
-pub ready_for-requires : goal.ready_for-requires
-ready_for-requires c = record {
-  old = rw c.old_text-front.ensures.front c.requires.given.1.read;
-  line = (
-    c.requires.given.0,
-    record { mark = rw c.head_line.ensures c.requires.given.1.is; finds = c.requires.given.2 },
-  );
-}
-
 pub returns-in_err-ready-clause-refused : goal.returns-in_err-ready-clause-refused
-returns-in_err-ready-clause-refused c = handed _ _ _ c.from_residual.ensures.1
-    (unmade_fails c.requires.given.1 c.in_err-ready.field-0.0
-    (rw c.old_text-front.ensures.front at (c.in_err-ready.ensures.unmade c.requires.given.0
-    (record { mark = rw c.head_line.ensures c.requires.given.1.is; finds = c.requires.given.2 }))))
-
-pub judge_text-requires : goal.judge_text-requires
-judge_text-requires c =
-    let for = c.in_ok-ready.ensures.ready c.requires.given.0
-    (record { mark = rw c.head_line.ensures c.requires.given.1.is; finds = c.requires.given.2 }) in
-    record { ready = (for.task, for.holds) }
+returns-in_err-ready-clause-refused c = search (rules, unmade_fails)
 
 pub returns-clause-found : goal.returns-clause-found
 returns-clause-found c command given finds =

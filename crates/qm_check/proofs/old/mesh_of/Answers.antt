@@ -1,13 +1,6 @@
 use Rattle.std.proofs.Common.{Err, ap}
 use Rattle.qm_check.proofs.old.mesh_of.Goals as goal
 
-pub returns-in-Ok-clause-old : goal.returns-in-Ok-clause-old
-returns-in-Ok-clause-old c text said = rw c.in-Ok.ensures.soup (record {
-  mesh = record { said = said; manifold = c.in-Ok.ensures.manifold };
-  solid = c.in-Ok.ensures.solid;
-  few = c.requires.0;
-})
-
 pub returns-in-Err-NotManifold-clause-refused : goal.returns-in-Err-NotManifold-clause-refused
 returns-in-Err-NotManifold-clause-refused c text said =
     let bad = c.in-Err-NotManifold.ensures.refused c.in-Err-NotManifold.place c.in-Err-NotManifold.soup

@@ -1,4 +1,4 @@
-use Rattle.error_laws.proofs.Errors.{handed}
+use Rattle.{std.proofs.Common.rules, error_laws.proofs.Errors.handed}
 use Rattle.qm_check.proofs.Pairs.{counted, no_head, remesh_found, text_fails, unmade_fails, IsAskedAt}
 use Rattle.qm_check.proofs.{Points.remesh_line, Tasks.few_found, pair.check_parts.Goals.In-Some}
 use Rattle.qm_check.proofs.pair.check_parts.Goals as goal
@@ -7,12 +7,7 @@ use Rattle.qm_check.proofs.pair.check_parts.Goals as goal
 asked : (c : In-Some)
     → IsAskedAt c.args.text.now.bytes.now c.old_text-front.result.bytes.now c.args.text.now.head.line c.in_ok-old.old
     c.in-Some.asked.settings c.in-Some.asked.auto
-asked c = record {
-  divided = c.requires.last;
-  lines = c.old_text-front.ensures.lines;
-  read = c.in_ok-old.ensures.old;
-  head = rw c.head_line-line.ensures at c.in-Some.ensures;
-}
+asked c = search rules
 
 pub returns-in_default-clause-refused : goal.returns-in_default-clause-refused
 returns-in_default-clause-refused c =

@@ -1,3 +1,4 @@
+use Rattle.std.proofs.Common.{rules}
 use Rattle.{std.proofs.Common.sym, std.proofs.Common.◌∙◌, qm_check.proofs.refined.judge_refined.Goals.After-new}
 use Rattle.qm_check.proofs.Maps.{no_points, other_refined, refined_mapped}
 use Rattle.{error_laws.proofs.Errors.handed, qm_check.specs.Making.IsGivenTo}
@@ -19,10 +20,7 @@ pub points_by-requires : goal.points_by-requires
 points_by-requires c = record { some = c.requires.given.is.low; few = c.requires.given.is.high }
 
 pub returns-in_err-new-clause-refused : goal.returns-in_err-new-clause-refused
-returns-in_err-new-clause-refused c =
-    let at = (goal.at.returns-in_err-new-clause-refused c).After-new in
-    handed _ _ _ c.from_residual-in_err-new.ensures.1
-    (no_points (given at) (laid at) c.in_err-new.field-0.0 c.in_err-new.ensures.refused)
+returns-in_err-new-clause-refused c = search (rules, handed, no_points, given, laid)
 
 pub compare_refined-requires : goal.compare_refined-requires
 compare_refined-requires c = record { refined = (c.new.result, c.in_ok-new.ensures.refined) }

@@ -1,21 +1,12 @@
-use Rattle.std.proofs.Common.{[], ◌≡◌, ◌∷◌, ◌++◌, length, ap, ◌∙◌, refl, subst, arith, append_assoc}
-use Rattle.{std.proofs.lemmas.List.append-nil, std.proofs.lemmas.List.nil_from_length, error_laws.proofs.Errors.handed}
-use Rattle.{def_flow.specs.Network.network, std.specs.Vec.Iter.into_iter_items, qm_check.specs.Checked.AreInReach}
-use Rattle.{remesh_laws.proofs.Keeps.are_lengths, def_certtext.specs.declared.certs.Certs.TheVariants.Risen}
+use Rattle.std.proofs.Common.{rules, ◌≡◌, ◌∷◌, ◌++◌, length, ap, ◌∙◌, refl, subst, arith, append_assoc}
+use Rattle.{std.proofs.lemmas.List.nil_from_length, error_laws.proofs.Errors.handed, def_flow.specs.Network.network}
+use Rattle.{std.specs.Vec.Iter.into_iter_items, qm_check.specs.Checked.AreInReach, remesh_laws.proofs.Keeps.are_lengths}
+use Rattle.{def_certtext.specs.declared.certs.Certs.TheVariants.Risen}
 use Rattle.def_certtext.specs.CertLines.{alone, lists_of, risen, risen_by, Certificates}
-use Rattle.qm_check.proofs.Kept.{checkable, checked_there, doubling_of, needed_there, passed_more, passed_none}
-use Rattle.qm_check.proofs.Kept.{reach_behind, risen_append, unused_last, unused_rises, unused_there}
+use Rattle.qm_check.proofs.Kept.{checkable, checked_there, doubling_of, needed_there, passed_more, reach_behind}
+use Rattle.qm_check.proofs.Kept.{risen_append, unused_last, unused_rises, unused_there}
 use Rattle.qm_check.proofs.rounds.check_rounds.Goals.{In-None, In-Some}
 use Rattle.qm_check.proofs.rounds.check_rounds.Goals as goal
-
-pub rounds-init : goal.rounds-init
-rounds-init c =
-    let gives = c.into_iter-round-iterator.ensures.into_iter_gives in
-    record {
-      left = rw c.new-passed.ensures.items gives.0;
-      many = omega (arith, gives.1, ap length gives.0, c.args.run.rounds.ok.0);
-      passed = λ wish for. rw c.new-passed.ensures.items (passed_none for);
-    }
 
 -- ---- In a round.
 
@@ -30,8 +21,7 @@ from c = risen (lists_of c.in-Some.round.cert) c.in-Some.round.rises.items
 
 told_is : (c : In-Some) → risen_by c.args.run.rounds.items (alone (lists_of c.args.run.cert))
     ≡ risen_by c.rounds.passed.items (from c)
-told_is c = rw (← (left_is c)) (risen_append c.rounds.passed.items
-    (c.in-Some.round ∷ into_iter_items c.next.new.self) (alone (lists_of c.args.run.cert)))
+told_is c = search (rules, risen_append)
 
 pub check_lengths-requires : goal.check_lengths-requires
 check_lengths-requires c =
@@ -98,10 +88,7 @@ rounds-preserved c =
 
 -- All rounds are passed.
 all_passed : (c : In-None) → c.args.run.rounds.items ≡ c.rounds.passed.items
-all_passed c =
-    let none : into_iter_items c.rounds.round-iterator ≡ [] =
-    nil_from_length _ (omega (arith, c.rounds.invariant.many, c.in-None.ensures.steps.0)) in
-    rw (← c.rounds.invariant.left, none, append-nil) refl
+all_passed c = search (rules, nil_from_length)
 
 pub check_lengths-requires-2 : goal.check_lengths-requires-2
 check_lengths-requires-2 c = record {

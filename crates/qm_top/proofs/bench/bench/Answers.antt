@@ -1,6 +1,5 @@
-use Rattle.std.proofs.Common.{◌∙◌, refl}
+use Rattle.{std.proofs.Common.rules, std.proofs.Common.◌∙◌, std.proofs.Common.refl, qm_top.proofs.Refusals.writer_runs}
 use Rattle.qm_top.proofs.{Benched.bench_writer, Benched.made_ended, Refusals.handed_run, Refusals.memory_ended}
-use Rattle.qm_top.proofs.Refusals.{writer_runs}
 use Rattle.qm_top.proofs.bench.bench.Goals as goal
 
 pub bench_mesh-requires : goal.bench_mesh-requires
@@ -16,5 +15,4 @@ returns-in_err-made g c state =
     (rw c.in_ok-soup.ensures.soup at c.in_err-made.ensures.refused)) refl
 
 pub returns : goal.returns
-returns g c state = writer_runs _ (bench_writer c.args.size (refl, refl)) c.bench_mesh.result
-    c.bench_mesh.ensures.done c.bench_mesh.ensures.refused
+returns g c state = search (rules, writer_runs, bench_writer)

@@ -1,4 +1,4 @@
-use Rattle.std.proofs.Common.{refl}
+use Rattle.std.proofs.Common.{rules, refl}
 use Rattle.qm_top.proofs.{Refined.blocks_writer, Refusals.halts, Refusals.writer_runs}
 use Rattle.qm_top.proofs.blocks.blocks.Goals as goal
 
@@ -6,7 +6,4 @@ pub returns-in_err-read : goal.returns-in_err-read
 returns-in_err-read g c = halts c.in_err-read.field-0.0 tt c.from_residual.ensures.1 c.in_err-read.ensures.refused refl
 
 pub returns : goal.returns
-returns g c =
-    let read = c.in_ok-read.ensures in
-    writer_runs _ (blocks_writer c.args.by _ read.manifold read.soup read.calm) c.blocks_mesh.result
-    c.blocks_mesh.ensures.done c.blocks_mesh.ensures.refused
+returns g c = search (rules, writer_runs, blocks_writer)

@@ -1,6 +1,5 @@
-use Rattle.std.proofs.{Common.rules, lemmas.Result.on_err_weaker, lemmas.Result.on_ok_weaker}
+use Rattle.std.proofs.{Common.rules, lemmas.Result.on_err_weaker}
 use Rattle.qm_output.proofs.Prefixes.{of_error, rest_prefix, text_prefix, text_whole}
-use Rattle.qm_top.proofs.Refusals.{on_ok_both}
 use Rattle.qm_top.proofs.blocks.write_blocks.Goals as goal
 
 pub returns-in_err-put_blocks-clause-prefix : goal.returns-in_err-put_blocks-clause-prefix
@@ -14,8 +13,4 @@ returns-clause-prefix g c = on_err_weaker c.flush.result (λ broke. search (
 )) c.flush.ensures.part
 
 pub returns-clause-whole : goal.returns-clause-whole
-returns-clause-whole g c = on_ok_weaker c.flush.result (λ both. search (
-  rules,
-  text_whole _ _ _ _ c.new-text.ensures.empty c.in_ok-put_blocks.ensures.whole.1 both.0 both.1,
-))
-    (on_ok_both _ _ c.flush.result c.flush.ensures.whole c.flush.ensures.empty)
+returns-clause-whole g c = search (rules, text_whole)

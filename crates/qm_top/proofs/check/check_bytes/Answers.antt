@@ -1,12 +1,7 @@
-use Rattle.qm_top.proofs.{Mapped.check_placed, Mapped.unaccepted, Mapped.unwritable, Refusals.broke, Refusals.not_begun}
-use Rattle.{std.proofs.Common.rules, std.proofs.Common.refl, def_io.specs.Moves.stream}
-use Rattle.{def_run.specs.Checking.WritesAccepted, error_laws.proofs.Errors.handed, qm_top.specs.Checking.IsUnaccepted}
+use Rattle.qm_top.proofs.{Mapped.check_placed, Mapped.unaccepted, Mapped.unwritable, Refusals.not_begun}
+use Rattle.{std.proofs.Common.refl, def_io.specs.Moves.stream, def_run.specs.Checking.WritesAccepted}
+use Rattle.{qm_top.specs.Checking.IsUnaccepted}
 use Rattle.qm_top.proofs.check.check_bytes.Goals as goal
-
-pub returns-in_err-write_all-in-Ok-clause-refused : goal.returns-in_err-write_all-in-Ok-clause-refused
-returns-in_err-write_all-in-Ok-clause-refused g c = handed _ _ _ c.from_residual.ensures.1
-    (broke c.as_bytes.result.now (search rules) c.in_err-write_all-in-Ok.ensures.prefix
-    c.in_err-write_all-in-Ok.ensures.cause.failed)
 
 pub judged_refusal-requires : goal.judged_refusal-requires
 judged_refusal-requires g c = check_placed c.args.bytes.now _ c.in-Err.ensures.refused

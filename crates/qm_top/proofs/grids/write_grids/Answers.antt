@@ -1,10 +1,6 @@
 use Rattle.qm_top.proofs.{Refined.is_gridded, Refusals.broke, Refusals.wrote}
-use Rattle.{std.proofs.Common.refl, error_laws.proofs.Errors.handed}
+use Rattle.{error_laws.proofs.Errors.handed}
 use Rattle.qm_top.proofs.grids.write_grids.Goals as goal
-
-pub returns-in_err-blocks-clause-refused : goal.returns-in_err-blocks-clause-refused
-returns-in_err-blocks-clause-refused g c =
-    handed _ _ _ c.from_residual.ensures.1 (refl, c.in_err-blocks.ensures.refused)
 
 pub returns-in_err-write_blocks-clause-refused : goal.returns-in_err-write_blocks-clause-refused
 returns-in_err-write_blocks-clause-refused g c = handed _ _ _ c.from_residual-in_err-write_blocks.ensures.1

@@ -1,12 +1,7 @@
 use Rattle.def_certtext.specs.{HeadLine.head_line, declared.certs.Rising.Rising}
 use Rattle.{std.proofs.Common.ap, def_cut.specs.Traced.traced_marks, def_run.specs.Remesh.AsksToRemesh}
-use Rattle.{qm_top.proofs.Remeshed.asked_ends, qm_top.proofs.Remeshed.third_kept, qm_top.specs.Finishing.headed_task}
+use Rattle.{qm_top.proofs.Remeshed.asked_ends, qm_top.specs.Finishing.headed_task}
 use Rattle.qm_top.proofs.remesh.remesh_mesh.Goals as goal
-
-pub finish-requires : goal.finish-requires
-finish-requires g c =
-    let both = third_kept c.args.asked.settings c.args.asked.auto c.third_if.ensures c.requires in
-    record { known = both.0; settings = both.1 }
 
 pub returns : goal.returns
 returns g c =

@@ -1,8 +1,8 @@
-use Rattle.std.proofs.Common.{◌≡◌, ap, arith, length, subst, to_z, of_z, ◌∙◌}
+use Rattle.std.proofs.Common.{rules, ◌≡◌, ap, arith, length, subst, to_z, of_z, ◌∙◌}
 use Rattle.std.proofs.{lemmas.Int.ints, lemmas.List.length-map}
 use mir.Syntax.{w128}
-use Rattle.def_mesh.specs.{Components.edge_count, Components.is_start, Components.seeds, Components.start_darts}
-use Rattle.def_mesh.specs.{Darts.darts, Faces.Faces, Manifold.IsManifold, Vertices.vertex_count}
+use Rattle.def_mesh.specs.{Components.edge_count, Components.start_darts, Faces.Faces, Manifold.IsManifold}
+use Rattle.def_mesh.specs.{Vertices.vertex_count}
 use Rattle.qm_top.proofs.Benched.{size_fails, traced_in}
 use Rattle.{error_laws.proofs.Errors.handed, def_cut.specs.Grids.rectangle, def_layout.specs.Arcs.path}
 use Rattle.{def_layout.specs.Layouts.Layout, def_report.specs.BenchLine.bench_line, def_run.specs.Bench.bench_faces}
@@ -20,16 +20,7 @@ returns-in_err-deviation-clause-refused c =
     c.in_err-deviation.ensures.refused)
 
 pub overflow_cast-counts : goal.overflow_cast-counts
-overflow_cast-counts c =
-    let faces = c.mesh-mesh.result.now in
-    omega (
-      arith,
-      c.len.ensures,
-      c.in_ok-sources.sources.starts.ok.0,
-      ap length c.in_ok-sources.ensures.starts,
-      filter_few (is_start faces (seeds faces)) (darts faces),
-      c.faces.ensures.mesh.few,
-    )
+overflow_cast-counts c = search (rules, filter_few)
 
 pub returns-clause-text : goal.returns-clause-text
 returns-clause-text c =
