@@ -1,0 +1,219 @@
+"""Tries other texts of declarations: each stands, under a name of its own, in a copy that `rt check` accepts or not."""
+
+from __future__ import annotations
+
+import re
+import subprocess
+from collections.abc import Iterator, Sequence
+from dataclasses import dataclass
+from pathlib import Path
+
+from shortening.lines import refilled
+from shortening.terms import TACTICS, WORD, Call, Declaration, Span, Terms, declarations
+
+BOUNDS = " fits 150 steps 1500000"
+MOST_FACTS = 14
+LEAST = 60
+STATEMENT = re.compile(r"[≡≤≢<↔×⊎¬⊥]|^(Is|Are|Has|All|Holds)")
+NO_LEMMA = TACTICS | {"arith", "rules", "common_steps", "refl", "absurd", "sym", "ap", "subst", "elim"}
+BY_TACTIC = re.compile(r"\((omega|search|grind|cc|sym|rw|simp|subst|record|λ)|λ|refl$|_$")
+ERROR = re.compile(r"^(?:\./)?(proofs/[^\s:]+\.antt):(\d+)\S* error: (.*)$", re.MULTILINE)
+Error = tuple[Path, int, str]
+UNREAD = re.compile(r"expected|unexpected|this line|`=` cannot")
+
+
+class NoVerdict(Exception):
+    """What `rt check` said where it failed for another reason than the proofs."""
+
+
+@dataclass(frozen=True)
+class Edit:
+    """Another text for characters of a declaration: a search with these facts, or `_`."""
+
+    path: Path
+    first: int
+    start: int
+    end: int
+    facts: tuple[str, ...] | None
+
+    @property
+    def place(self) -> tuple[Path, int]:
+        return self.path, self.first
+
+    def text(self, bounds: str = "") -> str:
+        if self.facts is None:
+            return "_"
+        return (f"search ({', '.join(('rules', *self.facts))})" if self.facts else "search rules") + bounds
+
+
+def edited(text: str, edits: Sequence[Edit], bounds: str = "") -> str:
+    for it in sorted(edits, key=lambda it: -it.start):
+        text = text[: it.start] + it.text(bounds) + text[it.end :]
+    return text
+
+
+def outermost(edits: Sequence[Edit]) -> list[Edit]:
+    """Those of one declaration that stand in no other."""
+    found: list[Edit] = []
+    for it in sorted(edits, key=lambda it: (it.start, -it.end)):
+        if not found or it.start >= found[-1].end:
+            found.append(it)
+    return found
+
+
+def result_of(signature: str) -> str:
+    """What a signature ends in, behind its last arrow outside of brackets."""
+    depth = begin = 0
+    for at, letter in enumerate(signature):
+        depth += (letter in "({[") - (letter in ")}]")
+        if letter == "→" and not depth:
+            begin = at + 1
+    return signature[begin:].strip()
+
+
+def lemmas(root: Path) -> set[str]:
+    """The names of lemmas and sets of lemmas, of the kit and of all crates."""
+    kit = Path(subprocess.run(["rt", "doc"], capture_output=True, text=True, check=True).stdout.strip()).parent
+    found: set[str] = set()
+    for path in [*kit.glob("**/*.antt"), *root.glob("crates/*/*/**/*.antt")]:
+        text = path.read_text(encoding="utf-8", errors="replace")
+        found.update(re.findall(r"^\s*(?:pub )?ruleset (?:pub )?(\S+)", text, re.MULTILINE))
+        for name, signature in re.findall(r"^\s*(?:pub )?(\S+) : (.*(?:\n +[^\s=].*)*)", text, re.MULTILINE):
+            if STATEMENT.search(result_of(re.sub(r"\s+", " ", signature))):
+                found.add(name)
+    return found - NO_LEMMA
+
+
+class File:
+    """A file of proofs as it stood at first."""
+
+    def __init__(self, path: Path, known: set[str]) -> None:
+        self.path, self.text = path, path.read_text(encoding="utf-8")
+        self.lines = self.text.split("\n")
+        self.declarations = {it.first: it for it in declarations(self.lines)}
+        imports = "\n".join(line for line in self.lines if line.startswith("use "))
+        words = {word.rsplit(".", 1)[-1] for word in WORD.findall(imports)}
+        self.scope = (words | {it.name for it in self.declarations.values()}) & known
+
+    def edits(self) -> Iterator[Edit]:
+        """What may stand for the terms of the file, and for arguments of its calls."""
+        for it in self.declarations.values():
+            for right in it.rights():
+                terms = Terms(it.text[right.start : right.end]).read()
+                for span in terms.spans:
+                    facts = self.facts(it, right.left, terms, span)
+                    if facts is not None:
+                        start, end = right.start + span.start, right.start + span.end
+                        yield Edit(self.path, it.first, start, end, facts)
+                for call in terms.calls:
+                    for start, end in arguments_of(it, terms, call):
+                        yield Edit(self.path, it.first, right.start + start, right.start + end, None)
+
+    def facts(self, of: Declaration, left: str, terms: Terms, span: Span) -> tuple[str, ...] | None:
+        """The lemmas that a term names and the calls of its own declaration, if a search may pay in its stead."""
+        text = terms.text[span.start : span.end]
+        if len(text) < LEAST and "\n" not in text or re.fullmatch(r"(search|omega|grind|cc)( \w+| \([^()]*\))?", text):
+            return None
+        near = (self.scope | set(of.names)) - set(WORD.findall(left)) - {of.name}
+        named = [word for word in dict.fromkeys(WORD.findall(text)) if word in near and word not in NO_LEMMA]
+        own = [
+            re.sub(r"\s+", " ", terms.text[it.start : it.end])
+            for it in terms.calls
+            if it.name == of.name and span.start <= it.start and it.end <= span.end
+        ]
+        return (*named[:MOST_FACTS], *dict.fromkeys(own))
+
+
+def arguments_of(of: Declaration, terms: Terms, call: Call) -> Iterator[tuple[int, int]]:
+    """The arguments of a call that others may determine."""
+    for start, end in call.arguments if call.name != of.name else ():
+        text = terms.text[start:end]
+        if len(text) > 2 and text[0] not in "{[" and not BY_TACTIC.match(text):
+            yield start, end
+
+
+class Proofs:
+    """The proofs of one crate, and what `rt check` says of other texts."""
+
+    def __init__(self, crate: Path, paths: list[Path], known: set[str]) -> None:
+        self.crate = crate
+        self.files = {path: File(path, known) for path in paths}
+
+    def declaration(self, place: tuple[Path, int]) -> Declaration:
+        return self.files[place[0]].declarations[place[1]]
+
+    def lines(self, edits: Sequence[Edit]) -> list[str]:
+        """The lines of the declaration of these edits, with them."""
+        of = self.declaration(edits[0].place)
+        return refilled(of, edited(of.text, edits).split("\n"))
+
+    def gain(self, edits: Sequence[Edit]) -> int:
+        return len(self.declaration(edits[0].place).lines) - len(self.lines(edits)) if edits else 0
+
+    def check(self) -> list[Error]:
+        """Where `rt check` refuses the crate's proofs, and why."""
+        ran = subprocess.run(["rt", "check"], cwd=self.crate, capture_output=True, text=True, check=False)
+        said = ran.stdout + ran.stderr
+        found = [(self.crate / path, int(line), why) for path, line, why in ERROR.findall(said)]
+        if ran.returncode and not found:
+            raise NoVerdict(said)
+        return found
+
+    def holding(self, tried: Sequence[Sequence[Edit]], bounds: str = BOUNDS) -> set[int]:
+        """The numbers of those of these edits, each of one declaration, that are accepted."""
+        todo, lost = set(range(len(tried))), set[int]()
+        while todo:
+            refused, unread = self.refused({number: tried[number] for number in sorted(todo)}, bounds)
+            lost |= refused or unread
+            todo = unread - lost
+        return set(range(len(tried))) - lost
+
+    def refused(self, tried: dict[int, Sequence[Edit]], bounds: str) -> tuple[set[int], set[int]]:
+        """Those that are refused, and those in files that one of them made unreadable."""
+        stands: dict[Path, list[tuple[range, int]]] = {}
+        try:
+            for path in {edits[0].path for edits in tried.values()}:
+                stands[path] = self.write_copies(path, tried, bounds)
+            refused, unread = set[int](), set[int]()
+            for path, line, why in self.check():
+                refused.update(int(number) for number in re.findall(r"\btried(\d+)_", why))
+                refused.update(number for at, number in stands.get(path, ()) if line in at)
+                if UNREAD.match(why):
+                    unread.update(number for _, number in stands.get(path, ()))
+        finally:
+            for path in stands:
+                path.write_text(self.files[path].text, encoding="utf-8")
+        return refused, unread
+
+    def write_copies(self, path: Path, tried: dict[int, Sequence[Edit]], bounds: str) -> list[tuple[range, int]]:
+        """Writes a file with a copy of its declaration for each of the edits, and says on which lines each stands."""
+        file, found, at = self.files[path], list[str](), 0
+        stands: list[tuple[range, int]] = []
+        mine = [(number, edits) for number, edits in tried.items() if edits[0].path == path]
+        for number, edits in sorted(mine, key=lambda pair: pair[1][0].first):
+            of = self.declaration(edits[0].place)
+            found += file.lines[at : of.end]
+            at = max(at, of.end)
+            copy = renamed(of, edited(of.text, edits, bounds), f"tried{number}_{of.name}").split("\n")
+            stands.append((range(len(found) + 1, len(found) + 1 + len(copy)), number))
+            found += copy
+        lines, shift = imported([*found, *file.lines[at:]])
+        path.write_text("\n".join(lines), encoding="utf-8")
+        return [(range(at.start + shift, at.stop + shift), number) for at, number in stands]
+
+
+def renamed(of: Declaration, text: str, name: str) -> str:
+    """The text of a declaration under another name, and private."""
+    return re.sub(rf"(?<![^\s(\[{{,]){re.escape(of.name)}(?![^\s)\]}},;])", name, re.sub(r"^(\s*)pub ", r"\1", text))
+
+
+def imported(lines: list[str]) -> tuple[list[str], int]:
+    """The lines with an import of `rules`, and how many lines that puts before them."""
+    if any(re.match(r"use .*\brules\b", line) for line in lines):
+        return lines, 0
+    common = "use Rattle.std.proofs.Common.{"
+    for at, line in enumerate(lines):
+        if line.startswith(common) and len(line) < 113:
+            return [*lines[:at], line.replace(common, f"{common}rules, ", 1), *lines[at + 1 :]], 0
+    at = next((n for n, line in enumerate(lines) if line.startswith("use ")), 1)
+    return [*lines[:at], f"{common}rules}}", *lines[at:]], 1
