@@ -1,5 +1,5 @@
 -- Classes of faces that are joined over edges that are not cut: each is one grid, and has one patch.
-use Rattle.std.proofs.Common.{◌≡◌, ℕ, zero, suc, ◌-◌, ◌<◌, ◌≤◌, true, false, Some, sym, ◌∙◌, ap, refl, inl, inr}
+use Rattle.std.proofs.Common.{rules, ◌≡◌, ℕ, zero, suc, ◌-◌, ◌<◌, ◌≤◌, true, false, Some, sym, ◌∙◌, ap, refl, inl, inr}
 use Rattle.std.proofs.Common.{arith, List, [], ◌∷◌, length, get_or}
 use Rattle.std.proofs.{lemmas.Bool.cases_lt, lemmas.Option.same_Some}
 use Rattle.def_mesh.specs.HalfEdges.{HalfEdges, IsQuadManifold}
@@ -54,9 +54,7 @@ module _ {mesh : HalfEdges} (laws : IsQuadManifold mesh) (cut : Cut) where
 
   pub links_low : (d e n : ℕ) → d < mesh.count → Links mesh cut d e n → e < mesh.count
   links_low d e zero l a = rw (← a) l
-  links_low d e (suc n) l a =
-      let low = links_low d a.0 n l a.1 in
-      elim a.2 [ inl s ↦ rw s (laws.next_low a.0 low) | inr o ↦ laws.twin_low a.0 e low o.1 ]
+  links_low d e (suc n) l a = search (rules, links_low d a.0 n l a.1)
 
 -- The side x of a grid has a twin, which is a side of a grid too.
 abbrev HasOther : (mesh : HalfEdges) (w h : ℕ) (cell : Cells) (k x : ℕ) → Type 0
@@ -67,12 +65,11 @@ module _ {mesh : HalfEdges} (laws : IsQuadManifold mesh) {cut : Cut} (full : IsC
   links_back d e zero l a = (0, sym a)
   links_back d e (suc n) l a =
       let c = a.0 in
-      let lc = links_low laws cut d c n l a.1 in
+      let lc = links_low laws _ d c n l a.1 in
       let back = links_back d c n l a.1 in
-      links_join laws cut e c d (elim a.2 [
+      links_join laws _ e c d (elim a.2 [
         | inl s ↦ rw (ap mesh.prev s ∙ laws.prev_next a.0) at (step_prev laws cut e e (0, refl))
-        | inr o ↦ step_over laws cut e e a.0 (0, refl) (full.alike a.0 e lc o.1 ∙ o.0)
-            (laws.twin_twin a.0 e lc o.1)
+        | inr o ↦ step_over laws _ e e _ (0, refl) (full.alike a.0 e lc o.1 ∙ o.0) (laws.twin_twin a.0 e lc o.1)
       ]) back
 
   pub linked_back : (d e : ℕ) → d < mesh.count → AreLinked mesh cut d e → AreLinked mesh cut e d
@@ -94,18 +91,16 @@ module _ {mesh : HalfEdges} (laws : IsQuadManifold mesh) {cut : Cut} (full : IsC
   )
   over (suc k) {w} {h} {cell} grid a b x la lb e off =
       let same : w - suc (w - suc a) ≡ a = omega arith in
-      let o = over k (quarter_grid laws full grid) b (w - suc a) x lb (omega arith)
-      (cc (same, spin_next laws k (cell a b))) off in
-      (o.0, o.1, turn_back {t = o.0} o.2)
+      search (
+        rules,
+        spin_next,
+        turn_back,
+        over k (quarter_grid laws full grid) b (w - suc a) x lb (omega arith)
+            (cc (same, spin_next laws k (cell a b))) off,
+      )
     where
       turn_back : {t : ℕ} → At mesh h w (quarter mesh w cell) (suc (suc k)) t → At mesh w h cell (suc (suc (suc k))) t
-      turn_back at = record {
-        a = w - suc at.b;
-        b = at.a;
-        a_low = omega arith;
-        b_low = at.a_low;
-        is = at.is ∙ spin_next laws (suc (suc k)) (cell (w - suc at.b) at.a);
-      }
+      turn_back at = search (rules, spin_next)
 
   -- b is at most the corner darts of a grid turned by a quarter, which are the same.
   quarter_most : {w h m : ℕ} {cell : Cells} → IsGrid mesh cut w h cell → AtMost mesh w h cell m
@@ -118,10 +113,7 @@ module _ {mesh : HalfEdges} (laws : IsQuadManifold mesh) {cut : Cut} (full : IsC
         let same : mesh.prev (cell 0 i) ≡ mesh.next (mesh.next (mesh.next (cell (w - suc j) i))) =
         cc (last, prev_three laws (cell 0 i)) in
         omega (arith, least.north i e);
-    north = λ j z.
-        let last : w - suc j ≡ 0 = omega arith in
-        let same : mesh.prev (mesh.next (cell (w - suc j) 0)) ≡ cell 0 0 = cc (last, laws.prev_next (cell 0 0)) in
-        omega (arith, least.first);
+    north = search rules;
   }
 
   -- Each corner of the class is one of the four of the grid.
@@ -184,25 +176,22 @@ module _ {mesh : HalfEdges} (laws : IsQuadManifold mesh) {cut : Cut} (full : IsC
         → AtMost mesh w h cell m
     at_most m least = record {
       first = least (cell 0 0) (0, refl) (first_corner grid);
-      east = λ i e. least (mesh.next (cell i 0)) (step_next laws cut _ _
-          (linked_cell i 0 (omega arith) grid.tall)) (
-            laws.next_low _ (grid.low i 0 (omega arith) grid.tall),
-            grid.east_shut i 0 e grid.tall,
-            ap cut (laws.prev_next _) ∙ grid.south_shut i (omega arith),
-          );
+      east = λ i e. least (mesh.next (cell i 0)) (step_next laws cut _ _ (linked_cell i 0 (omega arith) grid.tall)) (
+        laws.next_low _ (grid.low i 0 (omega arith) grid.tall),
+        grid.east_shut i 0 e grid.tall,
+        ap cut (laws.prev_next _) ∙ grid.south_shut i (omega arith),
+      );
       far = λ i j e z. let l : cell i j < mesh.count = grid.low i j (omega arith) (omega arith) in
-          least (mesh.next (mesh.next (cell i j))) (step_next laws cut _ _
-          (step_next laws cut _ _ (linked_cell i j (omega arith) (omega arith)))) (
+          least (mesh.next (mesh.next (cell i j))) (step_next laws cut _ _ (search (rules, step_next, linked_cell))) (
             laws.next_low _ (laws.next_low _ l),
             grid.north_shut i j (omega arith) z,
             ap cut (laws.prev_next _) ∙ grid.east_shut i j e (omega arith),
           );
-      north = λ j z. least (mesh.prev (cell 0 j)) (step_prev laws cut _ _
-          (linked_cell 0 j grid.wide (omega arith))) (
-            laws.prev_low _ (grid.low 0 j grid.wide (omega arith)),
-            grid.west_shut j (omega arith),
-            ap cut (prev_twice laws _) ∙ grid.north_shut 0 j grid.wide z,
-          );
+      north = λ j z. least (mesh.prev (cell 0 j)) (step_prev laws cut _ _ (linked_cell 0 j grid.wide (omega arith))) (
+        laws.prev_low _ (grid.low 0 j grid.wide (omega arith)),
+        grid.west_shut j (omega arith),
+        ap cut (prev_twice laws _) ∙ grid.north_shut 0 j grid.wide z,
+      );
     }
 
   -- Two patches.
@@ -219,9 +208,7 @@ module _ {mesh : HalfEdges} (laws : IsQuadManifold mesh) {cut : Cut} (full : IsC
     where
       there : {w h v g : ℕ} {cell tile : Cells} → IsGrid mesh cut w h cell → IsGrid mesh cut v g tile
           → In mesh w h cell x → In mesh v g tile x → In mesh v g tile (cell 0 0)
-      there a b i j =
-          let back = linked_back _ x (a.low 0 0 a.wide a.tall) (linked_in a x i) in
-          closed b x _ _ back.1 j
+      there a b i j = let back = linked_back _ x (a.low 0 0 a.wide a.tall) (linked_in a x i) in closed b x _ _ back.1 j
 
 -- The least of a list.
 

@@ -1,5 +1,5 @@
 -- Each class of faces of a traced cut has a corner: it lies at the start of a trail, or where another trail ends on it.
-use Rattle.std.proofs.Common.{◌≡◌, ◌⊎◌, ℕ, zero, suc, ◌<◌, Bool, true, false, Some, sym, ◌∙◌, ap, refl, inl, inr}
+use Rattle.std.proofs.Common.{rules, ◌≡◌, ◌⊎◌, ℕ, zero, suc, ◌<◌, Bool, true, false, Some, sym, ◌∙◌, ap, refl, inl, inr}
 use Rattle.{std.proofs.lemmas.Bool.cases_Bool, cut_laws.proofs.Folds.spin_next, cut_laws.proofs.Folds.turn_low}
 use Rattle.def_mesh.specs.HalfEdges.{HalfEdges, IsQuadManifold}
 use Rattle.def_cut.specs.{Trails.IsStraight, Trails.Trail, Trails.Joins, Trails.HasSources, Trails.IsTraced, Cuts.Cut}
@@ -31,9 +31,8 @@ module _ {mesh : HalfEdges} (laws : IsQuadManifold mesh) {start cut : ℕ → Bo
         | inr off ↦
             let back = ap mesh.twin (cc (laws.prev_next trail.4.0))
             ∙ laws.twin_twin _ _ (laws.next_low _ trail.2) trail.4.1 in
-            let over = step_over laws cut d _ _ (step_prev laws cut d d (0, refl)) off back in
-            from_class d _ (rw (laws.prev_next _) at (step_prev laws cut d _ over))
-            rest
+            let over = step_over laws _ d _ _ (step_prev laws cut d d (0, refl)) off back in
+            from_class d _ (rw (laws.prev_next _) at (step_prev laws cut d _ over)) rest
       ]
 
   -- and back along it on the other side.
@@ -45,9 +44,7 @@ module _ {mesh : HalfEdges} (laws : IsQuadManifold mesh) {start cut : ℕ → Bo
       → CornerOf mesh cut d
   across zero d t ld on tw trail =
       next_corner d ld on (traced.beside t d (laws.twin_low d t ld tw) trail (laws.twin_twin d t ld tw))
-  across (suc k) d t ld on tw trail =
-      let lt = laws.twin_low d t ld tw in
-      by_next (cases_Bool (cut (mesh.next d))) _ trail.2 trail.3 trail.4 trail.5.3
+  across (suc k) d t ld on tw trail = by_next (cases_Bool (cut (mesh.next d))) _ trail.2 trail.3 trail.4 trail.5.3
       (λ b lb onb tb. across k b _ lb onb tb trail.1)
     where
       by_next : (cut (mesh.next d) ≡ true) ⊎ (cut (mesh.next d) ≡ false) → (c : ℕ) → c < mesh.count → cut c ≡ true
@@ -55,8 +52,7 @@ module _ {mesh : HalfEdges} (laws : IsQuadManifold mesh) {start cut : ℕ → Bo
           → ((b : ℕ) → b < mesh.count → cut b ≡ true → mesh.twin b ≡ Some c → CornerOf mesh cut b) → CornerOf mesh cut d
       by_next (inl next) c lc onc s is rest = next_corner d ld on next
       by_next (inr off) c lc onc s {a} {b} {e} is rest =
-          let first : a
-          ≡ mesh.next c = cc (laws.prev_next s.0, laws.twin_twin (mesh.next c) s.0 (laws.next_low c lc) s.1) in
+          let first : a ≡ mesh.next c = search rules in
           let second : mesh.twin c ≡ Some b = cc (laws.prev_next c) in
           let lb = laws.twin_low c b lc second in
           let le = turn_low laws b e lb is.third in
@@ -90,15 +86,7 @@ module _ {mesh : HalfEdges} (laws : IsQuadManifold mesh) {start cut : ℕ → Bo
   pub corner_of : (d : ℕ) → d < mesh.count → CornerOf mesh cut d
   corner_of d ld =
       let s = sources d ld in
-      elim (along d s.1 s.0 ld s.2) [
-        | inr found ↦ found
-        | inl l ↦
-            let le = links_low laws cut d s.0 l.0 ld l.1 in
-            corner_at d s.0 l (elim s.3 [
-              | inl on ↦ start_corner s.0 le on
-              | inr alone ↦ (le, traced.boundary s.0 le alone.0, traced.boundary _ (laws.prev_low s.0 le) alone.1)
-            ])
-      ]
+      elim (along d s.1 s.0 ld s.2) [ inr found ↦ found | inl l ↦ search (rules, links_low) ]
 
 pub corner_law : CornerLaw
 corner_law mesh start cut laws sources traced d ld = corner_of laws sources traced d ld
@@ -108,16 +96,14 @@ corner_law mesh start cut laws sources traced d ld = corner_of laws sources trac
 module _ {mesh : HalfEdges} (laws : IsQuadManifold mesh) where
   pub spin_back : (k x : ℕ) → (m : ℕ) × (x ≡ spin mesh m (spin mesh k x))
   spin_back zero x = (0, refl)
-  spin_back (suc k) x =
-      let b = spin_back k x in
-      (suc (suc (suc b.0)), b.1 ∙ home b.0 _)
+  spin_back (suc k) x = let b = spin_back k x in (suc (suc (suc b.0)), b.1 ∙ home b.0 _)
     where
       home : (m y : ℕ) → spin mesh m y ≡ spin mesh (suc (suc (suc m))) (mesh.next y)
       home m y = cc (
         laws.four_sides y,
         spin_next laws m (mesh.next (mesh.next (mesh.next y))),
-        spin_next laws m (mesh.next (mesh.next y)),
-        spin_next laws m (mesh.next y),
+        spin_next laws m _,
+        spin_next laws m _,
       )
 
   pub spin_join : (m l y : ℕ) → (n : ℕ) × (spin mesh m (spin mesh l y) ≡ spin mesh n y)

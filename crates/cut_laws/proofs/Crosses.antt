@@ -1,9 +1,9 @@
 -- Four faces round a vertex, told by turns and by counting the darts that leave it.
-use Rattle.std.proofs.Common.{◌≡◌, ◌⊎◌, ℕ, zero, suc, ◌<◌, ◌≤◌, Some, sym, ◌∙◌, ap, refl, inl, inr, arith}
+use Rattle.std.proofs.Common.{rules, ◌≡◌, ◌⊎◌, ℕ, zero, suc, ◌<◌, ◌≤◌, Some, sym, ◌∙◌, ap, refl, inl, inr, arith}
 use Rattle.std.proofs.{lemmas.Bool.cases_eq, lemmas.Bool.cases_lt}
 use Rattle.def_mesh.specs.HalfEdges.{HalfEdges, Turns, IsQuadManifold}
 use Rattle.def_cut.specs.{Cuts.IsCross, Cuts.HasCross, Steps.or_zero}
-use Rattle.cut_laws.proofs.{Folds.prev_three, Folds.turn_from, Folds.turn_low, Folds.turn_same, Pigeon.apart_if}
+use Rattle.cut_laws.proofs.{Folds.turn_from, Folds.turn_low, Folds.turn_same, Pigeon.apart_if}
 
 -- Each edge at which a dart arrives at v has two darts.
 abbrev pub IsRound : (mesh : HalfEdges) (v : ℕ) → Type 0
@@ -43,9 +43,7 @@ of_four a b c d (suc (suc (suc (suc k)))) = of_four a b c d k
 module _ {mesh : HalfEdges} (laws : IsQuadManifold mesh) where
   -- A turn leads to another dart.
   pub no_fix : (d : ℕ) → d < mesh.count → mesh.twin (mesh.prev d) ≡ Some d → ⊥
-  no_fix d l t =
-      let ends = laws.twin_ends _ d (laws.prev_low d l) t in
-      (laws.corners_differ _ (laws.next_low d l)).1 (cc (prev_three laws d))
+  no_fix d l t = search rules
 
   turn_leaves : {v x y : ℕ} → Leaves mesh v x → mesh.twin (mesh.prev x) ≡ Some y → Leaves mesh v y
   turn_leaves {v} {x} {y} l is = record { low = turn_low laws x y l.low is; at = turn_from laws x y l.low is ∙ l.at }
@@ -65,31 +63,26 @@ module _ {mesh : HalfEdges} (laws : IsQuadManifold mesh) where
         elim t.3 [
           | inl r ↦
               let here : g (suc i) ≡ x = cc (is i, r) in
-              elim (cases_eq i p) [
-                | inl s ↦ (0, omega arith, sym back ∙ (ap (λ k. g (suc k)) (sym s) ∙ here))
-                | inr ne ↦ (suc i, omega arith, here)
-              ]
+              elim (cases_eq i p) [ inl s ↦ search rules | inr ne ↦ (suc i, omega arith, here) ]
           | inr r ↦ back_to i l t.2 (r ∙ ap Some (sym e))
         ]
       where
         back_to : (i : ℕ) → i < suc p → x < mesh.count → mesh.twin (mesh.prev x) ≡ Some (g i)
             → (i : ℕ) × (i < suc p) × (g i ≡ x)
-        back_to zero l lx r =
-            (p, omega arith, turn_same laws (g p) x (all_leave p).low lx (is p) (r ∙ ap Some (sym back)))
-        back_to (suc i) l lx r = (i, omega arith, turn_same laws (g i) x (all_leave i).low lx (is i) r)
+        back_to zero l lx r = (p, omega arith, turn_same laws _ x (all_leave p).low lx (is p) (r ∙ ap Some (sym back)))
+        back_to (suc i) l lx r = (i, omega arith, turn_same laws _ x (all_leave i).low lx (is i) r)
 
     all_among : (p : ℕ) → g (suc p) ≡ g 0 → AreAll mesh v (suc p) g
-    all_among p back x l =
-        let t = laws.one_fan (g 0) x first.low l.low (first.at ∙ sym l.at) in
-        among p back t.0 x t.1
+    all_among p back x l = search (rules, among)
 
     -- Two of them that are equal lead back.
     down : (i j : ℕ) → i < j → g i ≡ g j → (k : ℕ) × (g (suc k) ≡ g 0) × (suc k ≤ j)
     down zero (suc j) l e = (j, sym e, omega arith)
-    down (suc i) (suc j) l e =
-        let r = down i j (omega arith)
-        (turn_same laws (g i) (g j) (all_leave i).low (all_leave j).low (is i) (is j ∙ ap Some (sym e))) in
-        (r.0, r.1, omega arith)
+    down (suc i) (suc j) l e = search (
+      rules,
+      down i j (omega arith) (turn_same laws (g i) (g j) (all_leave i).low
+          (all_leave j).low (is i) (is j ∙ ap Some (sym e))),
+    )
     down _ zero l e = absurd (omega arith)
 
   module _ (v : ℕ) (round : IsRound mesh v) (d : ℕ) (leaves : Leaves mesh v d) where
@@ -195,9 +188,6 @@ module _ {mesh : HalfEdges} (laws : IsQuadManifold mesh) where
         back (suc zero) e l = cross.apart (sym e)
         back (suc (suc zero)) e l = no_fix c low_c (cross.last ∙ ap Some (sym e))
         back (suc (suc (suc k))) e l = omega arith
-
-    pub a_c : a ≡ c → ⊥
-    a_c e = let same = four_apart 1 3 (omega arith) (omega arith) e in omega arith
 
     pub four_some : AreSome mesh (mesh.from d) 4 (of_four d a b c)
     four_some = record { each = λ j l. leave j; apart = four_apart }

@@ -1,4 +1,5 @@
 -- Small facts on the half edges of a manifold.
+use Rattle.std.proofs.Common.{rules}
 use Rattle.std.proofs.Common.{◌≡◌, ℕ, ◌<◌, Some, sym, ◌⊎◌, zero, suc, inl, inr, ◌-◌, ◌/◌, false, ◌∙◌, ap, refl, arith}
 use Rattle.{std.proofs.lemmas.Bool.cases_eq, cut_laws.proofs.Pigeon.same_if}
 use Rattle.def_mesh.specs.HalfEdges.{HalfEdges, AreTurned, Turns, IsQuadManifold}
@@ -110,17 +111,15 @@ module _ {mesh : HalfEdges} (laws : IsQuadManifold mesh) {cut : Cut} (full : IsC
 
   -- A cell that two grids have in common stands at one place in both, and both begin with one cell.
   common_west : {w h v g : ℕ} {cell tile : Cells} → IsGrid mesh cut w h cell → IsGrid mesh cut v g tile
-      → (i a : ℕ) {j b : ℕ} → i < w → a < v → j < h → b < g → cell i j ≡ tile a b
-      → (i ≡ a) × (cell 0 j ≡ tile 0 b)
+      → (i a : ℕ) {j b : ℕ} → i < w → a < v → j < h → b < g → cell i j ≡ tile a b → (i ≡ a) × (cell 0 j ≡ tile 0 b)
   common_west one two zero zero li la lj lb e = (refl, e)
-  common_west one two (suc i) (suc a) {j} {b} li la lj lb e =
-      let r = common_west one two i a (omega arith) (omega arith) lj lb
-      (next_same laws _ _ (cc (west one i j li lj, west two a b la lb))) in
-      (ap suc r.0, r.1)
-  common_west one two zero (suc a) {j} {b} li la lj lb e =
-      absurd (cc (one.west_shut j lj, west_open two a b la lb))
-  common_west one two (suc i) zero {j} {b} li la lj lb e =
-      absurd (cc (two.west_shut b lb, west_open one i j li lj))
+  common_west one two (suc i) (suc a) {j} {b} li la lj lb e = search (
+    rules,
+    common_west one two i a (omega arith)
+        (omega arith) lj lb (next_same laws _ _ (cc (west one i j li lj, west two a b la lb))),
+  )
+  common_west one two zero (suc a) {j} {b} li la lj lb e = absurd (cc (one.west_shut j lj, west_open two a b la lb))
+  common_west one two (suc i) zero {j} {b} li la lj lb e = absurd (cc (two.west_shut b lb, west_open one i j li lj))
 
   module _ {w h v g : ℕ} {cell tile : Cells} (one : IsGrid mesh cut w h cell) (two : IsGrid mesh cut v g tile) where
     common_south : {i a : ℕ} (j b : ℕ) → i < w → a < v → j < h → b < g → cell i j ≡ tile a b
@@ -142,13 +141,11 @@ module _ {mesh : HalfEdges} (laws : IsQuadManifold mesh) {cut : Cut} (full : IsC
     -- Grids with one first cell have the same cells.
     cells_east : (cell 0 0 ≡ tile 0 0) → (i : ℕ) → i < w → i < v → cell i 0 ≡ tile i 0
     cells_east e zero lw lv = e
-    cells_east e (suc i) lw lv = prev_same laws _ _
-        (cc (one.east i 0 lw one.tall, cells_east e i (omega arith) (omega arith), two.east i 0 lv two.tall))
+    cells_east e (suc i) lw lv = prev_same laws _ _ (search (rules, cells_east e i (omega arith) (omega arith)))
 
     cells_north : (i j : ℕ) → i < w → i < v → cell i 0 ≡ tile i 0 → j < h → j < g → cell i j ≡ tile i j
     cells_north i zero lw lv e lh lg = e
-    cells_north i (suc j) lw lv e lh lg = cc
-        (one.north i j lw lh, cells_north i j lw lv e (omega arith) (omega arith), two.north i j lv lg)
+    cells_north i (suc j) lw lv e lh lg = search (rules, cells_north i j lw lv e (omega arith) (omega arith))
 
     not_wider : cell 0 0 ≡ tile 0 0 → w < v → ⊥
     not_wider e l =
@@ -180,18 +177,14 @@ module _ {mesh : HalfEdges} (laws : IsQuadManifold mesh) {cut : Cut} (full : IsC
   module _ {w h : ℕ} {cell : Cells} (grid : IsGrid mesh cut w h cell) where
     two_turns : (d e : ℕ) → d < mesh.count → mesh.twin (mesh.prev d) ≡ Some e → mesh.twin (mesh.prev e) ≡ Some d
         → cut d ≡ false → cut (mesh.prev d) ≡ false → cut e ≡ false → cut (mesh.prev e) ≡ false → ⊥
-    two_turns d e ld one two off_d off_pd off_e off_pe =
-        let c = full.crossed d ld uncut in
-        let same : c.0 ≡ e = cc c.3.first in
-        c.3.apart (cc c.3.second)
+    two_turns d e ld one two off_d off_pd off_e off_pe = let c = full.crossed d ld uncut in search rules
       where
         off : (x : ℕ) → (x ≡ d) ⊎ (x ≡ e) → (cut x ≡ false) × (cut (mesh.prev x) ≡ false)
         off x (inl s) = rw s (off_d, off_pd)
         off x (inr s) = rw s (off_e, off_pe)
 
         uncut : IsUncut mesh cut (mesh.from d)
-        uncut x lx s = let t = laws.one_fan d x ld lx (sym s) in
-            off x (two_darts laws d e ld (turn_low laws d e ld one) one two t.0 x t.1)
+        uncut x lx s = search (rules, two_darts)
 
     at_vertex : (i j : ℕ) → suc i < w → suc j < h → cell i j ≡ mesh.next (mesh.next (cell (suc i) (suc j))) → ⊥
     at_vertex i j li lj e =
@@ -215,14 +208,12 @@ module _ {mesh : HalfEdges} (laws : IsQuadManifold mesh) {cut : Cut} (full : IsC
           | inl p ↦ elim (cases_eq (h - suc y) y) [
             | inl q ↦ (laws.corners_differ (cell x y) (grid.low x y lx ly)).1 (ap mesh.from (cc (e, p, q)))
             | inr nq ↦ let q : h - suc y ≡ suc y = omega arith in
-                no_self laws _ (north_low grid x y lx ly)
-                (cc (e, p, q, grid.north x y lx (omega arith), laws.four_sides (cell x (suc y))))
+                no_self laws _ (north_low grid x y lx ly) (search rules)
           ]
           | inr np ↦ let p : w - suc x ≡ suc x = omega arith in elim (cases_eq (h - suc y) y) [
             | inl q ↦ no_self laws _ (laws.next_low _ (grid.low x y lx ly))
                 (cc (e, p, q, grid.east x y (omega arith) ly, prev_three laws (cell (suc x) y)))
-            | inr nq ↦ let q : h - suc y ≡ suc y = omega arith in
-                at_vertex x y (omega arith) (omega arith) (cc (e, p, q))
+            | inr nq ↦ search (rules, at_vertex)
           ]
         ]
 
@@ -241,7 +232,6 @@ module _ {mesh : HalfEdges} (laws : IsQuadManifold mesh) {cut : Cut} (full : IsC
         let turned = quarter_grid grid in
         let c = common grid turned {a = b} {b = w - suc a} li lb lj (omega arith) (cc (e, x)) in
         let one = one_grid grid turned c.2 in
-        let wide : w ≡ h = one.wide in
         not_half (λ x y lx ly. cc (one.cells x y lx ly, one.cells (w - suc y) x (omega arith) (omega arith)))
 
     -- A cell with a side in common with another is that cell.

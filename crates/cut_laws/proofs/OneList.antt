@@ -1,11 +1,11 @@
 -- At most one list of patches holds each face once.
-use Rattle.std.proofs.Common.{◌≡◌, ℕ, suc, ◌+◌, ◌*◌, ◌/◌, ◌%◌, ◌<◌, List, [], map, length, get_or, ap, refl, arith}
-use Rattle.std.proofs.{Math.Nat.div-lt_iff_lt-mul, lemmas.List.ext_get_or}
-use Rattle.def_mesh.specs.HalfEdges.{HalfEdges, IsQuadManifold}
+use Rattle.std.proofs.Common.{rules, ◌≡◌, ℕ, suc, ◌+◌, ◌*◌, ◌/◌, ◌%◌, ◌<◌, List, [], map, length, get_or, ap, refl}
+use Rattle.std.proofs.{Common.arith, Math.Nat.div-lt_iff_lt-mul, lemmas.List.ext_get_or}
 use Rattle.def_cut.specs.Grids.{IsPatch, Rectangle, cell_of, patch_at, least_of, IsSide, IsPartition}
-use Rattle.def_cut.specs.{Cuts.Cut, Cuts.IsCut, Laws.OneListLaw}
 use Rattle.cut_laws.proofs.{Corners.spun, Folds.no_fold, Folds.AreOne, Classes.In, Classes.one_patch}
-use Rattle.cut_laws.proofs.{Pigeon.increasing_place, Pigeon.same_many, Pigeon.same_values}
+use Rattle.cut_laws.proofs.Pigeon.{increasing_place, same_many, same_values}
+use Rattle.{def_mesh.specs.HalfEdges.HalfEdges, def_mesh.specs.HalfEdges.IsQuadManifold, def_cut.specs.Cuts.Cut}
+use Rattle.{def_cut.specs.Cuts.IsCut, def_cut.specs.Laws.OneListLaw}
 
 -- A place among h rows of w.
 pub place_row : (k w h : ℕ) → 0 < w → k < h * w → k / w < h
@@ -64,13 +64,11 @@ module _ {mesh : HalfEdges} (laws : IsQuadManifold mesh) {cut : Cut} (full : IsC
       → IsSide mesh (patch_at ps p) i j k d → IsSide mesh (patch_at ps q) a b l d → (p ≡ q) × (i ≡ a) × (j ≡ b)
   once ps t d p i j k q a b l lp lq one two =
       let inside : (p i j k : ℕ) → IsSide mesh (patch_at ps p) i j k d → LiesInPatch mesh (patch_at ps p) d =
-      λ p i j k s. (k, record { a = i; b = j; a_low = s.i_low; b_low = s.j_low; is = s.is }) in
+      search rules in
       let same = same_place ps t p q d lp lq (inside p i j k one) (inside q a b l two) in
       let s : IsSide mesh (patch_at ps p) a b l d = rw same two in
-      let cell = cell_of (patch_at ps p) in
       let r = spun laws k l _ _ (cc) in
-      let f = no_fold laws full (t.patch p lp).grid r.0 i j a b
-      one.i_low one.j_low s.i_low s.j_low r.1 in
+      let f = no_fold laws full (t.patch p lp).grid r.0 i j a b one.i_low one.j_low s.i_low s.j_low r.1 in
       (same, f.0, f.1)
 
   tiles : (ps : List Rectangle) → IsPartition mesh cut face ps → AreTiles mesh cut face ps

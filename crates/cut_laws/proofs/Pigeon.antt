@@ -1,11 +1,10 @@
 -- Strictly increasing numbers: each stands at one place, and two such with the same values are one.
-use Rattle.std.proofs.Common.{◌≡◌, ℕ, zero, suc, ◌<◌, ◌≤◌, sym, ◌∙◌, ap, inl, inr, arith, ◌⊎◌, cond, ◌==◌, eqb}
-use Rattle.std.proofs.lemmas.Bool.{cases_eq, cases_order, cases_lt, cond-true, cond-false, eq-eqb, ne_eqb}
+use Rattle.std.proofs.Common.{rules, ◌≡◌, ℕ, zero, suc, ◌<◌, ◌≤◌, sym, ◌∙◌, ap, inl, inr, arith, ◌⊎◌, cond, ◌==◌}
+use Rattle.std.proofs.lemmas.Bool.{cases_eq, cases_order, cases_lt}
 
 -- Numbers of which neither is less are equal.
 pub same_if : {a b : ℕ} → (a < b → ⊥) → (b < a → ⊥) → a ≡ b
-same_if {a} {b} less more = elim (cases_order a b)
-    [ inl s ↦ s | inr (inl l) ↦ absurd (less l) | inr (inr l) ↦ absurd (more l) ]
+same_if {a} {b} less more = search rules
 
 -- Values below a bound differ if each differs from the earlier ones.
 pub apart_if : (n : ℕ) (g : ℕ → ℕ) → ((i j : ℕ) → i < j → j < n → g i ≡ g j → ⊥) → (i j : ℕ) → i < n → j < n
@@ -18,12 +17,10 @@ pub record AreIncreasing (a : ℕ → ℕ) (n : ℕ) : Type 0 where
 
 pub increasing_less : {a : ℕ → ℕ} {n : ℕ} → AreIncreasing a n → (j k : ℕ) → j < k → k < n → a j < a k
 increasing_less r j zero l h = absurd (omega arith)
-increasing_less {a} r j (suc k) l h =
-    let next = r.step k h in
-    elim (cases_eq j k) [
-      | inl e ↦ let here : a j ≡ a k = ap a e in omega arith
-      | inr ne ↦ let there = increasing_less r j k (omega arith) (omega arith) in omega arith
-    ]
+increasing_less {a} r j (suc k) l h = elim (cases_eq j k) [
+  | inl e ↦ let here : a j ≡ a k = ap a e in omega arith
+  | inr ne ↦ let there = increasing_less r j k (omega arith) (omega arith) in omega arith
+]
 
 pub increasing_place : (a : ℕ → ℕ) (n : ℕ) → AreIncreasing a n → (j k : ℕ) → j < n → k < n → a j ≡ a k → j ≡ k
 increasing_place a n r = apart_if n a (λ j k l lk e. let less = increasing_less r j k l lk in omega arith)
@@ -49,8 +46,7 @@ module _ (a b : ℕ → ℕ) (n m : ℕ) (ra : AreIncreasing a n) (rb : AreIncre
             let u = back k lm in
             let low = not_below ra rb k ln same t.0 t.1 t.2 in
             let high = not_below rb ra k lm (λ i l. sym (same i l)) u.0 u.1 u.2 in
-            let here : a k ≡ b k = omega arith in
-            cc
+            search rules
         | inr ne ↦ same i (omega arith)
       ]
 
@@ -78,10 +74,7 @@ pub sent_or_not : (f : ℕ → ℕ) (v n : ℕ) → ((k : ℕ) × (k < n) × (f 
 sent_or_not f v zero = inr (λ k l e. omega arith)
 sent_or_not f v (suc n) = elim (cases_eq (f n) v) [
   | inl e ↦ inl (n, omega arith, e)
-  | inr ne ↦ elim (sent_or_not f v n) [
-    | inl (k, low, e) ↦ inl (k, omega arith, e)
-    | inr none ↦ inr (λ k l e. elim (cases_eq k n) [ inl q ↦ ne (cc) | inr other ↦ none k (omega arith) e ])
-  ]
+  | inr ne ↦ search (rules, sent_or_not f v n)
 ]
 
 -- Two places below a bound have one number.
@@ -92,39 +85,13 @@ Meets f n = (i : ℕ) × (j : ℕ) × (i < j) × (j ≤ n) × (f i ≡ f j)
 abbrev filled : (f : ℕ → ℕ) (n k : ℕ) → ℕ
 filled f n k = cond (f k == n) (f (suc n)) (f k)
 
-at_top : (f : ℕ → ℕ) (n k : ℕ) → f k ≡ n → filled f n k ≡ f (suc n)
-at_top f n k e = cond-true (eqb (f k) n) (f (suc n)) (f k) (eq-eqb (f k) n e)
-
-below : (f : ℕ → ℕ) (n k : ℕ) → (f k ≡ n → ⊥) → filled f n k ≡ f k
-below f n k ne = cond-false (eqb (f k) n) (f (suc n)) (f k) (ne_eqb (f k) n ne)
-
 pub pigeon : (n : ℕ) (f : ℕ → ℕ) → ((k : ℕ) → k ≤ n → f k < n) → Meets f n
 pigeon zero f low = absurd (let l : f 0 < 0 = low 0 (omega arith) in omega arith)
 pigeon (suc n) f low = elim (sent_or_not f (f (suc n)) (suc n)) [
   | inl (k, k_low, e) ↦ (k, suc n, k_low, omega arith, e)
   | inr none ↦
-      let low_too : (k : ℕ) → k ≤ n → filled f n k < n = λ k l. elim (cases_eq (f k) n) [
-        | inl e ↦
-            let high = low (suc n) (omega arith) in
-            let is = at_top f n k e in
-            let ne : f (suc n) ≡ n → ⊥ = λ q. none k (omega arith) (cc (e, q)) in
-            omega arith
-        | inr ne ↦
-            let high = low k (omega arith) in
-            let is = below f n k ne in
-            omega arith
-      ] in
-      let (i, j, l, h, e) = pigeon n (filled f n) low_too in
-      elim (cases_eq (f i) n) [
-        | inl a ↦ elim (cases_eq (f j) n) [
-          | inl b ↦ (i, j, l, omega arith, cc (a, b))
-          | inr b ↦ absurd (none j (omega arith) (cc (below f n j b, e, at_top f n i a)))
-        ]
-        | inr a ↦ elim (cases_eq (f j) n) [
-          | inl b ↦ absurd (none i (omega arith) (cc (below f n i a, e, at_top f n j b)))
-          | inr b ↦ (i, j, l, omega arith, cc (below f n i a, e, below f n j b))
-        ]
-      ]
+      let low_too : (k : ℕ) → k ≤ n → filled f n k < n = search rules in
+      search (rules, pigeon n (filled f n) low_too)
 ]
 
 -- A walk through numbers below n, of which no two steps lead to one place, comes back to its start.
@@ -145,13 +112,10 @@ place_in g (suc m) x = cond (g m == x) m (place_in g m x)
 place_there : (g : ℕ → ℕ) (m x j : ℕ) → j < m → g j ≡ x → (place_in g m x < m) × (g (place_in g m x) ≡ x)
 place_there g zero x j l e = absurd (omega arith)
 place_there g (suc m) x j l e = elim (cases_eq (g m) x) [
-  | inl s ↦ let here = cond-true (eqb (g m) x) m (place_in g m x) (eq-eqb (g m) x s) in
-      (omega arith, cc)
+  | inl s ↦ search rules
   | inr ne ↦
       let later : j ≡ m → ⊥ = λ s. ne (cc) in
-      let r = place_there g m x j (omega arith) e in
-      let here = cond-false (eqb (g m) x) m (place_in g m x) (ne_eqb (g m) x ne) in
-      (omega arith, cc)
+      search (rules, place_there g m x j (omega arith) e)
 ]
 
 -- Values of which no two are equal, and which all stand among m others, are at most m.
@@ -160,8 +124,7 @@ pub no_more : (n m : ℕ) (f g : ℕ → ℕ) → ((i j : ℕ) → i < n → j <
 no_more n m f g apart there = elim (cases_lt m n) [
   | inl l ↦
       let (i, j, less, le, e) = pigeon m (λ i. place_in g m (f i)) (λ i h. (at i (omega arith)).0) in
-      let same = apart i j (omega arith) (omega arith) (cc ((at i (omega arith)).1, (at j (omega arith)).1)) in
-      absurd (omega arith)
+      search (rules, at)
   | inr h ↦ h
 ]
   where

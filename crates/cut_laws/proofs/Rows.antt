@@ -1,13 +1,13 @@
 -- Rows of cells in a full cut: they stay straight, stand one over the other with one width, and end.
 use Rattle.std.proofs.Common.{◌≡◌, ℕ, zero, suc, ◌<◌, ◌≤◌, true, false, Option, Some, None, sym, ◌∙◌, ap, refl, inl}
-use Rattle.std.proofs.Common.{inr, arith, ◌⊎◌, Bool}
-use Rattle.std.proofs.lemmas.Bool.{false≢true, true_from_ne_false, false_from_ne_true, cases_eq, cases_Bool}
+use Rattle.std.proofs.Common.{rules, inr, arith, ◌⊎◌, Bool}
+use Rattle.std.proofs.lemmas.Bool.{false≢true, true_from_ne_false, cases_eq, cases_Bool}
 use Rattle.std.proofs.lemmas.Option.{same_Some}
 use Rattle.def_mesh.specs.HalfEdges.{HalfEdges, Turns, IsQuadManifold}
 use Rattle.def_cut.specs.{Cuts.Cut, Cuts.HasCross, Cuts.GoesOn, Cuts.IsCut, Cuts.IsCorner, Steps.or_zero}
 use Rattle.def_cut.specs.{Steps.step_east, Steps.step_north, Steps.easts, Steps.norths, Grids.IsGrid, Laws.GridLaw}
 use Rattle.cut_laws.{specs.Grown.IsRow, specs.Grown.grown, specs.Grown.IsGrown, proofs.Pigeon.comes_back}
-use Rattle.cut_laws.proofs.Folds.{prev_three, prev_twice, turn_from, turn_low, turn_same, next_same, twin_same}
+use Rattle.cut_laws.proofs.Folds.{prev_three, prev_twice, turn_from, turn_low, turn_same, twin_same}
 
 -- The edges of d and of the dart before it are not cut.
 abbrev pub IsOpen : (mesh : HalfEdges) (cut : Cut) (d : ℕ) → Type 0
@@ -44,17 +44,14 @@ module _ {mesh : HalfEdges} (laws : IsQuadManifold mesh) {cut : Cut} (full : IsC
 
   pub east_twin : (d : ℕ) → d < mesh.count → cut (mesh.next d) ≡ false → mesh.twin (mesh.next d)
       ≡ Some (mesh.prev (step_east mesh d))
-  east_twin d l off = let t = twin_there _ (laws.next_low d l) off in
-      cc (laws.prev_next t.0)
+  east_twin d l off = search rules
 
   pub north_twin : (d : ℕ) → d < mesh.count → cut (mesh.next (mesh.next d)) ≡ false
       → mesh.twin (mesh.next (mesh.next d)) ≡ Some (step_north mesh d)
-  north_twin d l off = let t = twin_there _ (laws.next_low _ (laws.next_low d l)) off in
-      cc
+  north_twin d l off = search rules
 
   pub east_low : (d : ℕ) → d < mesh.count → cut (mesh.next d) ≡ false → step_east mesh d < mesh.count
-  east_low d l off = rw (laws.next_prev _) at (laws.next_low _
-      (laws.twin_low _ _ (laws.next_low d l) (east_twin d l off)))
+  east_low d l off = search rules
 
   pub north_low : (d : ℕ) → d < mesh.count → cut (mesh.next (mesh.next d)) ≡ false → step_north mesh d < mesh.count
   north_low d l off = laws.twin_low _ _ (laws.next_low _ (laws.next_low d l)) (north_twin d l off)
@@ -68,11 +65,7 @@ module _ {mesh : HalfEdges} (laws : IsQuadManifold mesh) {cut : Cut} (full : IsC
 
   -- Two neighbouring edges at a vertex that are not cut: then the next one is not cut either, one way round ..
   open_turn : {d e : ℕ} → d < mesh.count → IsOpen mesh cut d → mesh.twin (mesh.prev d) ≡ Some e → IsOpen mesh cut e
-  open_turn {d} {e} l free t = (
-    here,
-    false_from_ne_true (cut (mesh.prev e))
-        (λ on. by_gap (full.gaps _ (laws.prev_low e (turn_low laws d e l t)) on)),
-  )
+  open_turn {d} {e} l free t = (here, search (rules, by_gap))
     where
       here : cut e ≡ false
       here = full.alike _ e (laws.prev_low d l) t ∙ free.1
@@ -82,9 +75,7 @@ module _ {mesh : HalfEdges} (laws : IsQuadManifold mesh) {cut : Cut} (full : IsC
 
       by_gap : GoesOn mesh cut (mesh.prev e) → ⊥
       by_gap (inl on) = cc (on, laws.next_prev e, here)
-      by_gap (inr g) =
-          let same : g.0 ≡ mesh.prev d = cc (g.1, laws.next_prev e, back) in
-          cc (g.2, same, laws.next_prev d, free.0)
+      by_gap (inr g) = search rules
 
   -- .. and so all the way round, back to the first.
   turn : ℕ → ℕ
@@ -102,12 +93,7 @@ module _ {mesh : HalfEdges} (laws : IsQuadManifold mesh) {cut : Cut} (full : IsC
       × IsOpen mesh cut (turns d n)
   unfolding turns
   turns_open l free zero = (l, free)
-  turns_open {d} l free (suc n) =
-      let x = turns d n in
-      let o = turns_open l free n in
-      let is = turn_is o.0 o.1 in
-      let free = open_turn o.0 o.1 is in
-      (turn_low laws x _ o.0 is, free)
+  turns_open {d} l free (suc n) = search (rules, turn_is, open_turn, turn_low, turns_open l free n)
 
   open_back : (d e : ℕ) → d < mesh.count → e < mesh.count → IsOpen mesh cut d → mesh.twin (mesh.prev e) ≡ Some d
       → IsOpen mesh cut e
@@ -121,8 +107,7 @@ module _ {mesh : HalfEdges} (laws : IsQuadManifold mesh) {cut : Cut} (full : IsC
       rw same at o.1
     where
       is : (k : ℕ) → mesh.twin (mesh.prev (turns d k)) ≡ Some (turns d (suc k))
-      is k = let o = turns_open ld free k in
-          turn_is o.0 o.1
+      is k = search (rules, turns_open, turn_is)
 
   -- Two neighbouring edges that are not cut: no edge at the vertex is cut.
   pub no_cut : (d : ℕ) → d < mesh.count → IsOpen mesh cut d → (e : ℕ) → e < mesh.count → mesh.from e ≡ mesh.from d
@@ -140,29 +125,18 @@ module _ {mesh : HalfEdges} (laws : IsQuadManifold mesh) {cut : Cut} (full : IsC
 
   -- The south edge goes on to the east.
   pub south_on : (d : ℕ) → d < mesh.count → cut d ≡ true → cut (mesh.next d) ≡ false → cut (step_east mesh d) ≡ true
-  south_on d l on off = elim (full.gaps d l on) [
-    | inl c ↦ absurd (cc)
-    | inr g ↦ cc
-  ]
+  south_on d l on off = search rules
 
   -- The east edge goes on to the north.
   pub east_on : (d : ℕ) → d < mesh.count → cut (mesh.next d) ≡ true → cut (mesh.next (mesh.next d)) ≡ false
       → cut (mesh.next (step_north mesh d)) ≡ true
-  east_on d l on off = elim (full.gaps _ (laws.next_low d l) on) [
-    | inl c ↦ absurd (cc)
-    | inr g ↦ cc
-  ]
+  east_on d l on off = search rules
 
   -- The west edge goes on to the north.
   pub west_on : (d : ℕ) → d < mesh.count → cut (mesh.prev d) ≡ true → cut (mesh.next (mesh.next d)) ≡ false
       → cut (mesh.prev (step_north mesh d)) ≡ true
   west_on d l on off =
-      let meets : mesh.from (mesh.prev d)
-      ≡ mesh.from (step_north mesh d) = cc (
-        prev_three laws d,
-        (laws.twin_ends (mesh.next (mesh.next d))
-            (step_north mesh d) (laws.next_low (mesh.next d) (laws.next_low d l)) (north_twin d l off)).0,
-      ) in
+      let meets : mesh.from (mesh.prev d) ≡ mesh.from (step_north mesh d) = search (rules, prev_three) in
       true_from_ne_false (cut (mesh.prev (step_north mesh d)))
       (λ c. false≢true (sym (no_cut _ (north_low d l off) (south_off d l off, c) _ (laws.prev_low d l) meets).0 ∙ on))
 
@@ -182,10 +156,7 @@ module _ {mesh : HalfEdges} (laws : IsQuadManifold mesh) {cut : Cut} (full : IsC
   pub north_alike : (d : ℕ) → d < mesh.count → cut (mesh.next d) ≡ false
       → cut (mesh.next (mesh.next (step_east mesh d))) ≡ cut (mesh.next (mesh.next d))
   north_alike d l off = elim (cases_Bool (cut (mesh.next (mesh.next (step_east mesh d))))) [
-    | inl on ↦ elim (cases_Bool (cut (mesh.next (mesh.next d)))) [
-      | inl up ↦ cc
-      | inr up ↦ cc (north_off d l off up)
-    ]
+    | inl on ↦ search (rules, north_off)
     | inr free ↦
         let o = no_cut _ (laws.prev_low _ (east_low d l off)) (west_off d l off, cc (prev_twice laws _)) _
         (laws.next_low _ (laws.next_low d l)) (sym (corner_east d l off)) in
@@ -202,8 +173,7 @@ module _ {mesh : HalfEdges} (laws : IsQuadManifold mesh) {cut : Cut} (full : IsC
       let free : IsOpen mesh cut (mesh.next (mesh.next d)) = (up, ap cut (laws.prev_next (mesh.next d)) ∙ off) in
       let (a, b, c, is) = cross_at (mesh.next (mesh.next d)) lx free in
       let x : ℕ = mesh.next (mesh.next d) in
-      let first = same_Some a (mesh.prev (step_east mesh d))
-      (sym is.first ∙ (ap mesh.twin (laws.prev_next (mesh.next d)) ∙ east_twin d l off)) in
+      let first = same_Some a (mesh.prev (step_east mesh d)) (search rules) in
       let la : a < mesh.count = turn_low laws x a lx is.first in
       let lb : b < mesh.count = turn_low laws a b la is.second in
       let lc : c < mesh.count = turn_low laws b c lb is.third in
@@ -213,8 +183,7 @@ module _ {mesh : HalfEdges} (laws : IsQuadManifold mesh) {cut : Cut} (full : IsC
       (sym (laws.twin_twin (mesh.prev c) x (laws.prev_low c lc) is.last) ∙ north_twin d l up) in
       let right : c ≡ mesh.next (step_north mesh d) = sym (laws.next_prev c) ∙ ap mesh.next last in
       let back = ap mesh.twin (sym right) ∙ laws.twin_twin (mesh.prev b) c (laws.prev_low b lb) is.third in
-      let at = turn_from laws b c lb is.third
-      ∙ (turn_from laws a b la is.second ∙ turn_from laws x a lx is.first) in
+      let at = turn_from laws b c lb is.third ∙ (turn_from laws a b la is.second ∙ turn_from laws x a lx is.first) in
       let o : IsOpen mesh cut c = no_cut x lx free c lc at in
       (ap cut (sym right) ∙ o.0, ap (λ y. mesh.next (or_zero y)) back ∙ (laws.next_prev b ∙ sym above))
 
@@ -256,17 +225,10 @@ module _ {mesh : HalfEdges} (laws : IsQuadManifold mesh) {cut : Cut} (full : IsC
         (row_low s w row i (omega arith)) (row.ends i e) (row_north row i (omega arith) ∙ off);
   }
 
-  -- A row whose west edge is cut ends.
-  east_same : (d e : ℕ) → d < mesh.count → e < mesh.count → cut (mesh.next d) ≡ false → cut (mesh.next e) ≡ false
-      → step_east mesh d ≡ step_east mesh e → d ≡ e
-  east_same d e ld le offd offe s = next_same laws d e (twin_same laws _ _ _ (laws.next_low d ld)
-      (laws.next_low e le) (east_twin d ld offd) (cc (east_twin e le offe)))
-
   pub endless : (d : ℕ) → d < mesh.count → cut (mesh.prev d) ≡ true
       → ((i : ℕ) → i ≤ mesh.count → cut (mesh.next (easts mesh d i)) ≡ false) → ⊥
   endless d l on off =
-      let r = comes_back _ _ low (λ i j li lj s. east_same _ _
-      (low i (omega arith)) (low j (omega arith)) (off i (omega arith)) (off j (omega arith)) s) in
+      let r = comes_back _ _ low (search (rules, twin_same, low)) in
       cc (west_off _ (low r.0 (omega arith)) (off r.0 (omega arith)))
     where
       low : (i : ℕ) → i ≤ mesh.count → easts mesh d i < mesh.count
@@ -276,16 +238,7 @@ module _ {mesh : HalfEdges} (laws : IsQuadManifold mesh) {cut : Cut} (full : IsC
   -- From each corner grows a grid: rows of one width stand over each other until a cut edge lies to the north.
   row_there : (d : ℕ) → d < mesh.count → cut (mesh.prev d) ≡ true → (w : ℕ) × IsRow mesh cut d w
   row_there d low west = elim (first_or_none (λ i. cut (mesh.next (easts mesh d i))) (suc mesh.count)) [
-    | inl (k, k_low, first) ↦ (
-      suc k,
-      record {
-        wide = omega arith;
-        low = low;
-        inside = λ i l. first.before i (omega arith);
-        ends = λ i e. let same : i ≡ k = omega arith in
-            cc (same, first.on);
-      },
-    )
+    | inl (k, k_low, first) ↦ (suc k, search rules)
     | inr none ↦ absurd (endless d low west (λ i l. none i (omega arith)))
   ]
 
@@ -299,23 +252,13 @@ module _ {mesh : HalfEdges} (laws : IsQuadManifold mesh) {cut : Cut} (full : IsC
   pub grow : (d : ℕ) → IsCorner mesh cut d → (w : ℕ) × (h : ℕ) × IsGrown mesh cut d w h
   grow d corner =
       let (w, row) = row_there d corner.0 corner.2 in
-      let (h, column) = row_there (mesh.next d) (laws.next_low d corner.0) (rw laws.prev_next corner.1) in (
-        w,
-        h,
-        record {
-          wide = row.wide;
-          tall = column.wide;
-          row = row;
-          inside = λ j l. rw norths_turned (column.inside j l);
-          ends = λ j e. rw norths_turned (column.ends j e);
-        },
-      )
+      let (h, column) = row_there (mesh.next d) (laws.next_low d corner.0) (rw laws.prev_next corner.1) in
+      search (rules, norths_turned)
 
   -- The rows of what has grown.
   pub row_at : {d w h : ℕ} → IsGrown mesh cut d w h → (j : ℕ) → j < h → IsRow mesh cut (norths mesh d j) w
   row_at g zero l = g.row
-  row_at {d} {w} {h} g (suc j) l = next_row (norths mesh d j) w (row_at g j (omega arith))
-      (g.inside j l)
+  row_at {d} {w} {h} g (suc j) l = next_row _ w (row_at g j (omega arith)) (g.inside j l)
 
   west_at : {d w h : ℕ} → IsGrown mesh cut d w h → cut (mesh.prev d) ≡ true → (j : ℕ) → j < h
       → cut (mesh.prev (norths mesh d j)) ≡ true
@@ -328,11 +271,9 @@ module _ {mesh : HalfEdges} (laws : IsQuadManifold mesh) {cut : Cut} (full : IsC
   grown_grid d w h corner g = record {
     wide = g.wide;
     tall = g.tall;
-    low = λ i j li lj. row_low (norths mesh d j) w (row_at g j lj) i li;
-    east = λ i j li lj. east_twin (grown mesh d i j) (row_low (norths mesh d j) w
-        (row_at g j lj) i (omega arith)) ((row_at g j lj).inside i li);
-    north = λ i j li lj. north_twin (grown mesh d i j) (row_low (norths mesh d j)
-        w (row_at g j (omega arith)) i li)
+    low = search (rules, row_low, row_at);
+    east = λ i j li lj. east_twin _ (row_low _ w (row_at g j lj) i (omega arith)) ((row_at g j lj).inside i li);
+    north = λ i j li lj. north_twin _ (row_low _ w (row_at g j (omega arith)) i li)
         (row_north (row_at g j (omega arith)) i li ∙ g.inside j lj)
         ∙ ap Some (sym (row_above (row_at g j (omega arith)) (g.inside j lj) i li));
     east_open = λ i j li lj. (row_at g j lj).inside i li;

@@ -1,12 +1,11 @@
 -- A dart of the cut lies on one arc, at one place of it, in one direction.
 use Rattle.std.proofs.Common.{rules, ◌≡◌, ℕ, suc, ◌+◌, ◌-◌, ◌<◌, Bool, true, false, List, length, Some, sym, ◌∙◌, ap}
-use Rattle.std.proofs.Common.{arith}
-use Rattle.def_mesh.specs.HalfEdges.{HalfEdges, IsQuadManifold}
-use Rattle.def_cut.specs.{Cuts.Cut, Cuts.IsCut, Steps.easts}
 use Rattle.def_layout.specs.Arcs.{LiesAt, Path, path_at, dart_at, long_at, name_at, AreArcs}
-use Rattle.def_layout.specs.Nodes.{AreNodes}
 use Rattle.cut_laws.proofs.{Classes.least_high, Classes.least_there, Pigeon.increasing_place}
 use Rattle.layout_laws.proofs.Runs.{run_low, same_place, same_length, back_run}
+use Rattle.{std.proofs.Common.arith, def_mesh.specs.HalfEdges.HalfEdges, def_mesh.specs.HalfEdges.IsQuadManifold}
+use Rattle.{def_cut.specs.Cuts.Cut, def_cut.specs.Cuts.IsCut, def_cut.specs.Steps.easts}
+use Rattle.def_layout.specs.Nodes.{AreNodes}
 
 module _ (m : HalfEdges) (laws : IsQuadManifold m) (cut : Cut) (full : IsCut m cut) (node : ℕ → Bool)
     (nodes : AreNodes m cut node) (arcs : List Path) (are : AreArcs m cut node arcs) where
@@ -29,8 +28,7 @@ module _ {m : HalfEdges} (laws : IsQuadManifold m) {cut : Cut} (full : IsCut m c
       → dart_at arcs a k ≡ dart_at others b j → IsSameArc a b k j
   same_arc a b k j a_low b_low k_low j_low same =
       let (first, place) = same_place m laws cut full node nodes (dart_at arcs a 0) (long_at arcs a) (dart_at others b
-      0) (long_at others b) (are.each a a_low).run (them.each b b_low).run k j k_low j_low
-      (cc ((are.each a a_low).each k k_low, (them.each b b_low).each j j_low)) in
+      0) (long_at others b) (are.each a a_low).run (them.each b b_low).run k j k_low j_low (search rules) in
       let long = same_length m laws cut full node nodes (dart_at others b 0) (long_at arcs a) (long_at others b)
       (rw first at (are.each a a_low).run) (them.each b b_low).run in search rules
 
@@ -52,15 +50,13 @@ module _ {m : HalfEdges} (laws : IsQuadManifold m) {cut : Cut} (full : IsCut m c
   pub clash : (a b k j : ℕ) → a < length arcs → b < length others → k < long_at arcs a → j < long_at others b
       → m.twin (dart_at others b j) ≡ Some (dart_at arcs a k) → ⊥
   clash a b k j a_low b_low k_low j_low twin =
-      let (r, back) = back_run m laws cut full node nodes (dart_at others b 0) (long_at others b) (them.each b
-      b_low).run j (dart_at arcs a k) j_low (ap m.twin (sym ((them.each b b_low).each j j_low)) ∙ twin) in
+      let (r, back) = back_run m laws _ full _ nodes _ _ (them.each b
+      b_low).run j _ j_low (ap m.twin (sym ((them.each b b_low).each j j_low)) ∙ twin) in
       let there : dart_at arcs a k ≡ easts m r (long_at others b - 1 - j) =
       cc (twin, (them.each b b_low).each j j_low, back.twin j (long_at others b - 1 - j) (omega arith)) in
-      let place = same_place m laws cut full node nodes (dart_at arcs a 0) (long_at arcs a) r (long_at others b)
-      (are.each a a_low).run back.run k (long_at others b - 1 - j) k_low (omega arith)
-      (cc ((are.each a a_low).each k k_low, there)) in
-      let long = same_length m laws cut full node nodes r (long_at arcs a) (long_at others b)
-      (rw place.0 at (are.each a a_low).run) back.run in
+      let place = same_place m laws _ full _ nodes _ _ r _ (are.each a a_low).run back.run k (long_at others b - 1 - j)
+      k_low (omega arith) (cc ((are.each a a_low).each k k_low, there)) in
+      let long = same_length m laws _ full _ nodes r _ _ (rw place.0 at (are.each a a_low).run) back.run in
       let across : (i n : ℕ) → i + suc n ≡ long_at others b → m.twin (dart_at others b i) ≡ Some (dart_at arcs a n) =
       λ i n sum. cc (
         (them.each b b_low).each i (omega arith),
@@ -68,20 +64,16 @@ module _ {m : HalfEdges} (laws : IsQuadManifold m) {cut : Cut} (full : IsCut m c
         place.0,
         (are.each a a_low).each n (omega (arith, long)),
       ) in
-      let n = least_there (path_at arcs a).darts (are.each a a_low).run.some in
-      let p = least_there (path_at others b).darts (them.each b b_low).run.some in
-      let b_less = (them.each b b_low).named (long_at others b - 1 - n.0) (dart_at arcs a n.0) (omega (
+      let n = least_there _ (are.each a a_low).run.some in
+      let p = least_there _ (them.each b b_low).run.some in
+      let b_less = (them.each b b_low).named (long_at others b - 1 - n.0) (dart_at _ a _) (omega (
         arith,
         long,
         n.1,
       )) (across (long_at others b - 1 - n.0) n.0 (omega (arith, long, n.1))) in
-      let a_less = (are.each a a_low).named (long_at others b - 1 - p.0) (dart_at others b p.0) (omega (
-        arith,
-        long,
-        p.1,
-      ))
-      (laws.twin_twin (dart_at others b p.0) (dart_at arcs a (long_at others b - 1 - p.0)) (dart_low m laws cut full
-      node nodes others them b p.0 b_low p.1) (across p.0 (long_at others b - 1 - p.0) (omega (arith, p.1)))) in
+      let a_less = (are.each a a_low).named (long_at others b - 1 - p.0) (dart_at _ b _) (omega (arith, long, p.1))
+      (laws.twin_twin (dart_at _ b _) (dart_at _ a _) (dart_low m laws _ full
+      _ nodes _ them b _ b_low p.1) (across p.0 (long_at others b - 1 - p.0) (omega (arith, p.1)))) in
       omega (arith, a_less, b_less, n.2, p.2)
 
 module _ (m : HalfEdges) (laws : IsQuadManifold m) (cut : Cut) (full : IsCut m cut) (node : ℕ → Bool)
@@ -103,6 +95,5 @@ module _ (m : HalfEdges) (laws : IsQuadManifold m) (cut : Cut) (full : IsCut m c
   same_use a b true false o k d a_low b_low o_low k_low at also = search (rules, clash)
   same_use a b false true o k d a_low b_low o_low k_low at also = search (rules, clash)
   same_use a b false false o k d a_low b_low o_low k_low at also =
-      let one : m.twin d ≡ Some (dart_at arcs a (long_at arcs a - 1 - o)) = laws.twin_twin (dart_at arcs a (long_at arcs
-      a - 1 - o)) d (dart_low m laws cut full node nodes arcs are a (long_at arcs a - 1 - o) a_low (omega arith)) at in
+      let one : m.twin d ≡ Some (dart_at arcs a (long_at arcs a - 1 - o)) = search (rules, dart_low) in
       search (rules, dart_low, same_dart)

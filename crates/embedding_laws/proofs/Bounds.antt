@@ -31,17 +31,16 @@ module _ (l : Gluing) (x : Lengths) (laid : IsSurface l) (len : AreLengths l x) 
   pub vertices_few : vertices l x ≤ 4 * face_count l x
   vertices_few =
       let below : (v : ℕ) (low : v < vertices l x) → dart_number l x (dart v low).0
-      < 4 * face_count l x = λ v low. omega (arith, dart_low l x (dart v low).0 (dart v low).1, faces_long l x) in
-      let all : passing (λ k. true) (vertices l x) ≡ vertices l x = passing_all (vertices l x) in
-      let darts : passing (λ k. true) (4 * face_count l x) ≡ 4 * face_count l x = passing_all (4 * face_count l x) in
+      < 4 * face_count l x = λ v low. omega (arith, dart_low l x _ (dart v low).1, faces_long l x) in
+      let all : passing (λ k. true) (vertices l x) ≡ vertices l x = passing_all _ in
+      let darts : passing (λ k. true) (4 * face_count l x) ≡ 4 * face_count l x = passing_all _ in
       omega (
         arith,
         all,
         darts,
-        passing_le (λ k. true) (λ k. true) (vertices l x) (4 * face_count l x)
-            (λ v low on. (dart_number l x (dart v low).0, below v low, refl))
+        passing_le (λ k. true) (λ k. true) _ _ (λ v low on. (dart_number l x (dart v low).0, below v low, refl))
             (λ v w a on b too same. sym (dart v a).2 ∙ ap (λ (d : CellDart). vertex_number l x (dart_start l x d))
-            (dart_same l x (dart v a).0 (dart w b).0 (dart v a).1 (dart w b).1 same) ∙ (dart w b).2),
+            (dart_same l x _ _ (dart v a).1 (dart w b).1 same) ∙ (dart w b).2),
       )
     where
       dart : (v : ℕ) → v < vertices l x → (d : CellDart) × IsDart l x d × (vertex_number l x (dart_start l x d) ≡ v)
@@ -52,8 +51,7 @@ module _ (l : Gluing) (x : Lengths) (laid : IsSurface l) (len : AreLengths l x) 
   -- A patch has no more cells than there are.
   patch_few : (p : ℕ) → p < l.patches → wide l x p * high l x p ≤ face_count l x
   patch_few p low =
-      let le : cells_before l x (suc p) ≤ cells_before l x l.patches =
-      count_rises (λ q. wide l x q * high l x q) (suc p) l.patches (omega (arith, low)) in
+      let le : cells_before l x (suc p) ≤ cells_before l x l.patches = search (rules, count_rises) in
       omega (arith, le)
 
   both_few : (p : ℕ) → p < l.patches → (wide l x p ≤ face_count l x) × (high l x p ≤ face_count l x)
@@ -95,10 +93,5 @@ module _ (l : Gluing) (old x : Lengths) (k : ℕ) (laid : IsSurface l) (len : Ar
 pub old_faces : (layout : Layout) (is : IsSomeLayout layout)
     → face_count (gluing_of layout) (long_at layout.arcs) ≤ 2 ^ 21
 old_faces layout is =
-    let m = lies layout is in
-    omega (
-      arith,
-      faces_are (gluing_of layout) (long_at layout.arcs) _ m.lengths is.faces m.cell
-          (old_model is.faces m.manifold (gluing_of layout) (long_at layout.arcs) m.paved m.lengths m.cell
-          (vertex_at layout) m.arc_dart m.sided m.quads),
-    )
+    let m = lies _ is in
+    omega (arith, faces_are _ _ _ m.lengths _ _ (old_model _ m.manifold _ _ m.paved m.lengths _ _ _ m.sided m.quads))

@@ -10,7 +10,7 @@ use Rattle.def_layout.specs.Layouts.{way_number, Layout, vertex_at, gluing_of, I
 use Rattle.def_layout.specs.{Lengths.reach, Lengths.wide, Lengths.high, Lengths.AreLengths, Cells.CellDart}
 use Rattle.def_layout.specs.{Cells.IsDart, Cells.dart, Cells.dart_along, Cells.slot_dart, Arcs.end_vertex, Arcs.IsRun}
 use Rattle.def_layout.specs.{Arcs.LiesAt, Arcs.path_at, Arcs.dart_at, Arcs.long_at, declared.tmesh.SideArc.SideArc}
-use Rattle.def_layout.specs.{Surfaces.HasWholeSides, Surfaces.IsOtherSlot, Embeddings.IsEmbedding, Borders.side_size}
+use Rattle.def_layout.specs.{Surfaces.IsOtherSlot, Embeddings.IsEmbedding, Borders.side_size}
 use Rattle.def_layout.specs.{Borders.border_dart, Nodes.AreNodes}
 use Rattle.list_laws.proofs.Filters.{IsKept, kept_at, rises}
 use Rattle.layout_laws.proofs.{Runs.none_or, Runs.run_inner, Borders.line, Borders.on_side, Borders.line_from}
@@ -29,9 +29,6 @@ module _ (m : HalfEdges) (laws : IsQuadManifold m) where
   pub spin_way : (k c : ℕ) → (w : Way) × (spin m k c ≡ spin m (way_number w) c)
   spin_way zero c = (south, refl)
   spin_way (suc k) c = search (rules, spin_way k c)
-
-  two_on : (d : ℕ) → d < m.count → d ≢ m.next (m.next d)
-  two_on d low e = (laws.corners_differ d low).1 (ap m.from e)
 
   pub spin_once : (c : ℕ) (w v : Way) → c < m.count → spin m (way_number w) c ≡ spin m (way_number v) c → w ≡ v
   spin_once c w v h1 h2 = search (rules, spin_low)
@@ -53,9 +50,6 @@ module _ {m : HalfEdges} (laws : IsQuadManifold m) {cut : Cut} (full : IsCut m c
 
   arc_run : (a : ℕ) → a < length t.arcs → IsRun m cut node (dart_at t.arcs a 0) (long_at t.arcs a)
   arc_run a low = (lay.arcs.each a low).run
-
-  pub paved : HasWholeSides l
-  paved = search rules
 
   pub lengths : AreLengths l x
   lengths = record {
@@ -87,11 +81,7 @@ module _ {m : HalfEdges} (laws : IsQuadManifold m) {cut : Cut} (full : IsCut m c
       let (p, i, j, q, p_low, side) = lay.patches.covers k low in
       let w = spin_way m laws q (cell_of (patch_at t.patches p) i j) in (
         dart p i j w.0,
-        record {
-          patch_low = p_low;
-          i_low = omega (arith, side.i_low, lay.sizes p south p_low);
-          j_low = omega (arith, side.j_low, lay.sizes p west p_low);
-        },
+        search rules,
         cc (w.1, side.is),
       )
 
@@ -121,8 +111,7 @@ module _ {m : HalfEdges} (laws : IsQuadManifold m) {cut : Cut} (full : IsCut m c
   pub stands : (d : ℕ) → d < m.count → cut d ≡ true → (w : Slot) × (o : ℕ) × StandsAt d w o
   stands d low on =
       let (p, i, j, q, p_low, side) = lay.patches.covers d low in
-      let (s, k, less, is) =
-      on_side m laws cut full (patch_at t.patches p) (grid p p_low) q i j d side.i_low side.j_low side.is on in
+      let (s, k, less, is) = on_side m laws _ full _ (grid p p_low) q i j d side.i_low side.j_low side.is on in
       let on : IsOn l x p s k _ _ = place_on l x p s k p_low (omega (arith, lay.sizes p s p_low)) in (
         slot p s _,
         _,
@@ -158,8 +147,7 @@ module _ {m : HalfEdges} (laws : IsQuadManifold m) {cut : Cut} (full : IsCut m c
       let d_low = arc_dart_low a k low less in
       let e : long_at t.arcs a - 1 - (long_at t.arcs a - 1 - k) ≡ k = omega arith in
       let (v, o, s) = stands u (laws.twin_low _ u d_low twin) (full.alike _ u d_low twin ∙ arc_on a k low less) in
-      let one = one_use a false (long_at t.arcs a - 1 - k) u v o low (omega arith)
-      (ap (λ i. m.twin (dart_at t.arcs a i)) e ∙ twin) s in
+      let one = one_use a _ _ u v o low (omega arith) (ap (λ i. m.twin (dart_at t.arcs a i)) e ∙ twin) s in
       (v, s.is_slot, one.0, one.1)
 
   ahead_is : (w : Slot) (k : ℕ) → IsSlot l w → k < x (use_of l w).arc → (use_of l w).forward ≡ true
@@ -196,8 +184,7 @@ module _ {m : HalfEdges} (laws : IsQuadManifold m) {cut : Cut} (full : IsCut m c
       backward : (v : Slot) → IsSlot l v → (use_of l v).arc ≡ (use_of l w).arc → (use_of l v).forward ≡ false
           → m.twin (dart_at t.arcs (use_of l w).arc 0) ≡ None → ⊥
       backward v is_v arc way none =
-          let low : long_at t.arcs (use_of l v).arc - 1 < long_at t.arcs (use_of l v).arc =
-          omega (arith, (arc_run (use_of l v).arc (lay.uses v is_v)).some) in
+          let low : long_at t.arcs (use_of l v).arc - 1 < long_at t.arcs (use_of l v).arc = search rules in
           let zero_is : long_at t.arcs (use_of l v).arc - 1 - (long_at t.arcs (use_of l v).arc - 1) ≡ 0 = omega arith in
           search (rules, behind_is)
 
@@ -214,9 +201,7 @@ module _ {m : HalfEdges} (laws : IsQuadManifold m) {cut : Cut} (full : IsCut m c
   -- A dart of the cut that leaves a node begins a slot's arc there.
   node_starts : (n d : ℕ) → n < l.nodes → d < m.count → cut d ≡ true → m.from d ≡ vertex_at t n → (w : Slot)
       × IsSlot l w × (start_node l (use_of l w) ≡ n)
-  node_starts n d n_low d_low on leaves =
-      let (w, o, s) = stands d d_low on in
-      (w, s.is_slot, go (use_of l w).arc (use_of l w).forward o (lay.uses w s.is_slot) s.low s.lies)
+  node_starts n d n_low d_low on leaves = let (w, o, s) = stands d d_low on in search (rules, go)
     where
       is_node_here : node (m.from d) ≡ true
       is_node_here = ap node leaves ∙ (node_kept n n_low).passes
@@ -225,25 +210,18 @@ module _ {m : HalfEdges} (laws : IsQuadManifold m) {cut : Cut} (full : IsCut m c
       go : (a : ℕ) (f : Bool) (o : ℕ) → a < length t.arcs → o < long_at t.arcs a
           → LiesAt m (path_at t.arcs a).darts f o d → start_node l (record { arc = a; forward = f }) ≡ n
       go a true zero a_low o_low at =
-          vertex_same (l.first a) n (lay.first_low a a_low) n_low (lay.first_at a a_low ∙ ap m.from (sym at) ∙ leaves)
-      go a true (suc o) a_low o_low at =
-          absurd (false≢true (sym (run_inner m laws cut full node nodes (dart_at t.arcs a 0) (long_at t.arcs a)
-          (arc_run a a_low) o o_low) ∙ ap (λ k. node (m.from k))
-          (sym (at ∙ (lay.arcs.each a a_low).each (suc o) o_low)) ∙ is_node_here))
+          vertex_same _ n (lay.first_low a a_low) n_low (lay.first_at a a_low ∙ ap m.from (sym at) ∙ leaves)
+      go a true (suc o) a_low o_low
+          at = absurd (false≢true (sym (run_inner m laws _ full _ nodes _ _ (arc_run a a_low) o o_low)
+          ∙ ap (λ k. node (m.from k)) (sym (at ∙ (lay.arcs.each a a_low).each (suc o) o_low)) ∙ is_node_here))
       go a false o a_low o_low at =
           let k_low : long_at t.arcs a - 1 - o < long_at t.arcs a = omega arith in
-          let ends = (laws.twin_ends (dart_at t.arcs a (long_at t.arcs a - 1 - o)) d
-          (arc_dart_low a (long_at t.arcs a - 1 - o) a_low k_low) at).0 in
+          let ends = (laws.twin_ends (dart_at _ a _) d (arc_dart_low a _ a_low k_low) at).0 in
           elim (cases_eq o 0) [
             | inl z ↦
                 let e : long_at t.arcs a - 1 ≡ long_at t.arcs a - 1 - o = omega arith in
-                vertex_same (l.last a) n (lay.last_low a a_low) n_low (sym (last_vertex a a_low)
-                ∙ ap (λ k. m.from (m.next (dart_at t.arcs a k))) e ∙ sym ends ∙ leaves)
-            | inr some ↦ absurd
-                (false≢true (sym ((arc_run a a_low).inside (long_at t.arcs a - 1 - o) (omega arith))
-                ∙ ap (λ k. node (m.from (m.next k)))
-                (sym ((lay.arcs.each a a_low).each (long_at t.arcs a - 1 - o) k_low)) ∙ ap node (sym ends)
-                ∙ is_node_here))
+                search (rules, vertex_same, last_vertex)
+            | inr some ↦ search (rules, is_node_here)
           ]
 
   -- After a dart of the cut comes one that leaves its end.

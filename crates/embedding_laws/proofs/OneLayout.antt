@@ -2,24 +2,23 @@
 use Rattle.std.proofs.Common.{rules, ◌≡◌, ◌⊎◌, ℕ, zero, suc, ◌<◌, Bool, true, false, not, List, [], ◌∷◌, length, get_or}
 use Rattle.std.proofs.Common.{◌∙◌, inl, inr, arith, ◌+◌, ◌-◌, ◌≤◌, sym, ap, subst}
 use Rattle.std.proofs.lemmas.Bool.{cases_Bool, cases_lt, or_cases, and_parts, not-true, ltb-true, cases_order}
-use Rattle.std.{proofs.lemmas.List.ext_get_or, specs.Prelude.nat_lt, specs.Prelude.is_some, specs.List.filter}
-use Rattle.def_mesh.specs.{Darts.darts, Darts.prev_of, Darts.from_of, Darts.to_of, Darts.twin_of, Faces.Faces}
-use Rattle.def_mesh.specs.{Vertices.fan_of, Vertices.vertex_count, Kinds.is_regular, Meshes.IsMesh}
-use Rattle.def_mesh.specs.{HalfEdges.IsQuadManifold, HalfEdges.half_edges, HalfEdges.HalfEdges}
+use Rattle.def_mesh.specs.Darts.{darts, prev_of, from_of, to_of, twin_of}
+use Rattle.def_mesh.specs.{Faces.Faces, Vertices.fan_of, Vertices.vertex_count, Kinds.is_regular, Meshes.IsMesh}
+use Rattle.def_mesh.specs.HalfEdges.{IsQuadManifold, half_edges, HalfEdges}
 use Rattle.def_cut.specs.{FullCut.IsFullCut, FullCut.is_on, Cuts.IsCut, Cuts.Cut, Steps.face_of, Grids.patch_at}
 use Rattle.def_layout.specs.Layouts.{Layout, IsDartLayout, gluing_of, vertex_at, side_at}
+use Rattle.def_layout.specs.{Embeddings.IsEmbedding, declared.tmesh.SideArc.SideArc, Borders.border_dart, Lengths.reach}
 use Rattle.def_layout.specs.Arcs.{dart_at, long_at, LiesAt, Path, path_at, name_at, AreArcs}
 use Rattle.def_layout.specs.Gluings.{Way, south, east, north, west, Slot, IsSlot}
-use Rattle.def_layout.specs.{Nodes.is_lone_before, Nodes.cut_degree, Nodes.is_node, Nodes.AreNodes}
-use Rattle.def_layout.specs.{Embeddings.IsEmbedding, declared.tmesh.SideArc.SideArc, Borders.border_dart, Lengths.reach}
+use Rattle.def_layout.specs.Nodes.{is_lone_before, cut_degree, is_node, AreNodes}
 use Rattle.mesh_laws.proofs.Chains.{prev_of_low, IsFan, fan_of_is, before_from, manifold_law}
 use Rattle.def_written.specs.{Laws.AreQuads, Laws.LiesInMesh, EmbeddingLaws.EmbeddingLaw, EmbeddingLaws.OneLayoutLaw}
-use Rattle.layout_laws.proofs.FaceNodes.{are_nodes}
-use Rattle.written_laws.proofs.{ModelCounts.used_dart, Spacings.count_rises}
 use Rattle.embedding_laws.proofs.ArcUses.{dart_low, same_arc, one_name_both, clash, same_use}
 use Rattle.embedding_laws.proofs.Lies.{cell_dart, lengths, node_kept, sided, vertex_same}
-use Rattle.cut_laws.proofs.{Pigeon.AreIncreasing, Pigeon.increasing_place, Pigeon.same_many, Pigeon.same_values}
-use Rattle.cut_laws.proofs.{OneList.one_list_law}
+use Rattle.cut_laws.proofs.Pigeon.{AreIncreasing, increasing_place, same_many, same_values}
+use Rattle.{std.proofs.lemmas.List.ext_get_or, std.specs.Prelude.nat_lt, std.specs.Prelude.is_some}
+use Rattle.{std.specs.List.filter, layout_laws.proofs.FaceNodes.are_nodes, written_laws.proofs.ModelCounts.used_dart}
+use Rattle.{written_laws.proofs.Spacings.count_rises, cut_laws.proofs.OneList.one_list_law}
 use Rattle.{face_laws.proofs.FullCuts.full_cut_law, sum_laws.proofs.Sums.count_below_same}
 
 -- What a filter keeps is there.
@@ -108,13 +107,7 @@ module _ (m : HalfEdges) (laws : IsQuadManifold m) (cut : Cut) (full : IsCut m c
       (elim f as (λ g. LiesAt m (path_at others b).darts g o (dart_at arcs a 0) → IsFound arcs others a) [
         | true ↦ λ at.
             let s = same_arc laws full nodes are them a b 0 o low b_low (are.each a low).run.some o_low at in
-            record {
-              at = b;
-              low = b_low;
-              name = one_name_both laws full nodes are them a b 0 o low b_low s;
-              long = s.long;
-              each = s.each;
-            }
+            search (rules, one_name_both)
         | false ↦ search (rules, clash)
       ]) lies
 
@@ -158,15 +151,14 @@ module _ (m : HalfEdges) (laws : IsQuadManifold m) (cut : Cut) (full : IsCut m c
         let first = vertex_same laws full nodes lt (path_at t.arcs a).first
         (path_at u.arcs a).first (lt.first_low a low) (omega (arith, lu.first_low a u_low, nodes_long))
         (cc (lt.first_at a low, s.each a low, lu.first_at a u_low, same)) in
-        let last = vertex_same laws full nodes lt (path_at t.arcs a).last
-        (path_at u.arcs a).last (lt.last_low a low) (omega (arith, lu.last_low a u_low, nodes_long))
-        (cc (
+        let last = vertex_same laws full nodes lt (path_at t.arcs a).last (path_at u.arcs a).last (lt.last_low a low)
+        (omega (arith, lu.last_low a u_low, nodes_long)) (cc (
           lt.last_at a (long_at t.arcs a - 1) low (omega (arith, some)),
           s.each a low,
           lu.last_at a (long_at t.arcs a - 1) u_low (omega (arith, long, some)),
           same,
         )) in
-        λ i. record { first = first i; last = last i; darts = s.each a low i })
+        search rules)
 
     -- Two layouts that differ in their sides at most.
     module _ (t : Layout) (sides : List (List (List SideArc))) (lt : IsDartLayout m cut node face v t)
@@ -192,8 +184,7 @@ module _ (m : HalfEdges) (laws : IsQuadManifold m) (cut : Cut) (full : IsCut m c
       -- Sides that agree before a place reach equally far.
       same_reach : (p : ℕ) (s : Way) (k : ℕ) → ((i : ℕ) → i < k → here p s i ≡ there p s i)
           → reach (gluing_of t) x p s k ≡ reach (gluing_of u) x p s k
-      same_reach p s k before = count_below_same (λ i. x (here p s i).arc) (λ i. x (there p s i).arc) k
-          (λ i l. ap (λ (w : SideArc). x w.arc) (before i l))
+      same_reach p s k before = count_below_same _ _ k (λ i l. ap (λ (w : SideArc). x w.arc) (before i l))
 
       -- So they agree there, too.
       one_more : (p : ℕ) (s : Way) (k : ℕ) → p < length t.patches → k < (gluing_of t).many p s → k
@@ -203,12 +194,11 @@ module _ (m : HalfEdges) (laws : IsQuadManifold m) (cut : Cut) (full : IsCut m c
           let is_other : IsSlot (gluing_of u) (slot p s k) = record { patch_low = low; low = other } in
           let a_low : (here p s k).arc < length t.arcs = lt.uses (slot p s k) is_one in
           let b_low : (there p s k).arc < length t.arcs = lu.uses (slot p s k) is_other in
-          let e = same_use m laws cut full node nodes t.arcs lt.arcs (here p s k).arc (there p s k).arc
-          (here p s k).forward (there p s k).forward 0 0 (border_dart m (patch_at t.patches p) s (reach (gluing_of t) x
-          p s k + 0)) a_low b_low (some (here p s k).arc a_low) (some (there p s k).arc b_low) (lt.used (slot p s k) 0
-          is_one (some (here p s k).arc a_low)) (subst (λ (r : ℕ). LiesAt m (path_at t.arcs (there p s k).arc).darts
+          let e = same_use m laws _ full _ nodes _ lt.arcs _ _
+          _ _ 0 0 _ a_low b_low (some _ a_low) (some _ b_low) (lt.used (slot p s k) 0
+          is_one (some _ a_low)) (subst (λ (r : ℕ). LiesAt m (path_at t.arcs (there p s k).arc).darts
           (there p s k).forward 0 (border_dart m (patch_at t.patches p) s (r + 0))) (sym (same_reach p s k before))
-          (lu.used (slot p s k) 0 is_other (some (there p s k).arc b_low))) in
+          (lu.used (slot p s k) 0 is_other (some _ b_low))) in
           λ i. record { arc = e.0 i; forward = e.1 i }
 
       agree : (p : ℕ) (s : Way) (k : ℕ) → p < length t.patches → k ≤ (gluing_of t).many p s → k ≤ (gluing_of u).many p s
@@ -220,12 +210,10 @@ module _ (m : HalfEdges) (laws : IsQuadManifold m) (cut : Cut) (full : IsCut m c
       -- They have as many uses, since both are as long as the side of the patch.
       fewer : (p : ℕ) (s : Way) → p < length t.patches → (gluing_of t).many p s < (gluing_of u).many p s → ⊥
       fewer p s low l =
-          let reached = same_reach p s ((gluing_of t).many p s)
-          (agree p s ((gluing_of t).many p s) low (omega arith) (omega arith)) in
+          let reached = same_reach p s ((gluing_of t).many p s) (agree p s _ low (omega arith) (omega arith)) in
           let far = count_rises (λ i. x (there p s i).arc) (suc ((gluing_of t).many p s)) ((gluing_of u).many p s)
           (omega arith) in
-          let step = some (there p s ((gluing_of t).many p s)).arc
-          (lu.uses (slot p s ((gluing_of t).many p s)) (record { patch_low = low; low = l })) in
+          let step = some _ (lu.uses (slot p s ((gluing_of t).many p s)) (record { patch_low = low; low = l })) in
           omega (arith, lt.sizes p s low, lu.sizes p s low, reached, far, step)
 
     module _ (t : Layout) (sides : List (List (List SideArc))) (lt : IsDartLayout m cut node face v t)
@@ -240,8 +228,7 @@ module _ (m : HalfEdges) (laws : IsQuadManifold m) (cut : Cut) (full : IsCut m c
 
       same_side : (p : ℕ) (s : Way) → p < length t.patches → side_at t p s ≡ side_at (u t sides lt lu) p s
       same_side p s low = ext_get_or (record { arc = 0; forward = true }) (side_at t p s) (side_at (u t sides lt lu) p
-          s) (same_count p s low) (λ i l. agree t sides lt lu p s ((gluing_of t).many p s) low (omega arith) (omega
-          (arith, same_count p s low)) i l)
+          s) (same_count p s low) (search (rules, agree, same_count))
 
       same_four : (p : ℕ) → p < length t.patches → get_or t.sides p [] ≡ get_or sides p []
       same_four p low = ext_get_or [] (get_or t.sides p []) (get_or sides p []) (lt.four p low ∙ sym (lu.four p low))

@@ -218,16 +218,12 @@ module _ {arcs : List Path} {uses : List SideArc} {line : List ℕ} {starts : �
 
 module _ {faces : Faces} {arcs : List Path} {uses : List SideArc} (runs : AreRuns faces arcs uses) (patch : Rectangle)
     (is : IsPatchOf faces runs.cut patch) where
-  on : (way : Way) → (us : List SideArc)
-      × IsSideOf arcs uses (run_list (half_edges faces) (border_dart (half_edges faces) patch way 0)
-      (side_size patch way)) us
+  on : (way : Way) → (us : List SideArc) × IsSideOf arcs uses
+      (run_list (half_edges faces) (border_dart (half_edges faces) patch way 0) (side_size patch way)) us
   on way = side (side_split runs is way)
 
   four : (four : List (List SideArc)) × AreFour faces arcs uses patch four
-  four = (
-    (on south).0 ∷ (on east).0 ∷ (on north).0 ∷ (on west).0 ∷ [],
-    record { count = refl; each = each },
-  )
+  four = ((on south).0 ∷ (on east).0 ∷ (on north).0 ∷ (on west).0 ∷ [], record { count = refl; each = each })
     where
       each : (way : Way) → IsSideOf arcs uses
           (run_list (half_edges faces) (border_dart (half_edges faces) patch way 0) (side_size patch way))

@@ -2,14 +2,13 @@
 use Rattle.std.proofs.Common.{◌/◌, Bool, List, length, map, refl, arith}
 use Rattle.def_cut.specs.{FullCut.is_on, FullCut.IsFullCut, Grids.IsPartition, Grids.Rectangle, Traced.traced_marks}
 use Rattle.def_layout.specs.{Arcs.Path, FaceLayouts.IsCutLayout, Nodes.is_node, Layouts.Layout}
-use Rattle.def_layout.specs.{declared.tmesh.SideArc.SideArc}
 use Rattle.def_mesh.specs.{Darts.darts, Faces.Faces, HalfEdges.half_edges, Meshes.IsMesh, Vertices.vertex_count}
 use Rattle.def_remesh.specs.LayoutLaws.{HasOneLayout, LayoutLaw, TracedLayoutLaw}
-use Rattle.embedding_laws.proofs.OneLayout.{one_layout_law}
 use Rattle.qm_tmesh.specs.{Arcs.AreArcsBelow, Tables.IsMarked, Uses.HasUsesBelow}
-use Rattle.qm_tmesh.proofs.{Built.have_patches, Built.is_layout, Built.to_marked, UseTables.to_named}
-use Rattle.existence_laws.proofs.{Arcs.arcs_exist, Arcs.node_list, Arcs.uses_exist, Arcs.sides_exist}
-use Rattle.existence_laws.proofs.{Patches.patches_exist}
+use Rattle.qm_tmesh.proofs.Built.{have_patches, is_layout, to_marked}
+use Rattle.existence_laws.proofs.Arcs.{arcs_exist, node_list, uses_exist, sides_exist}
+use Rattle.{def_layout.specs.declared.tmesh.SideArc.SideArc, embedding_laws.proofs.OneLayout.one_layout_law}
+use Rattle.{qm_tmesh.proofs.UseTables.to_named, existence_laws.proofs.Patches.patches_exist}
 use Rattle.{std.specs.List.range_with_len, qm_grid.proofs.Laid.to_cutting, site_laws.proofs.Laws.graph_law}
 
 module _ (faces : Faces) (marks : List Bool) (mesh : IsMesh faces) (full : IsFullCut faces marks) where

@@ -30,9 +30,8 @@ module _ {faces : Faces} {cut : List Bool} (cutting : IsCutting faces cut) where
             d,
             record {
               corner = (parts d is).0;
-              linked = join cutting (4 * f) e d linked (join cutting e (4 * (d / 4)) d
-                  (lies_linked cutting corner grown (d / 4) (parts d is).1)
-                  (back cutting d (4 * (d / 4)) (parts d is).0.0 (to_first cutting d)));
+              linked = join cutting (4 * f) e d linked (join cutting e (4 * (d / 4)) d (lies_linked cutting corner grown
+                  (d / 4) (parts d is).1) (back cutting d (4 * (d / 4)) (parts d is).0.0 (to_first cutting d)));
               least = λ x of_one at. least x
                   (passes x (join cutting e (4 * f) x (back cutting (4 * f) e (omega arith) linked) of_one) at);
             },
@@ -64,9 +63,8 @@ module _ {faces : Faces} {cut : List Bool} (cutting : IsCutting faces cut) where
             let marked = λ (g : ℕ). get_or seen g false || lies_in (grid_list mesh d w h) g in (
               map marked (range_with_len 0 (length seen)),
               ps ++ record { w = w; h = h; cells = cells } ∷ [],
-              found_more cutting _ (omega arith) is grown refl _ so off
-                  (length-map-range_with_len marked 0 (length seen))
-                  (λ g l. get_or-map-range_with_len marked 0 (length seen) g g false l (omega arith)),
+              found_more cutting _ (omega arith) is grown refl _ so off (length-map-range_with_len marked 0
+                  (length seen)) (λ g l. get_or-map-range_with_len marked 0 (length seen) g g false l (omega arith)),
             )
       ])
 

@@ -20,18 +20,17 @@ use Rattle.cut_laws.proofs.{Classes.step_spin, Classes.links_low}
 pub has_fan : (faces : Faces) (v : ℕ) → HasFan (half_edges faces) v (faces_at faces v)
 has_fan faces v =
     let darts = fan_of faces v in
-    let fan = is_fan faces v darts refl in
+    let fan = is_fan _ v _ refl in
     let at = λ (i : ℕ). get_or darts i 0 in
     record {
-      most = λ n g all. no_more (length darts) n at g (λ i j li lj e. elim (cases_order i j) [
+      most = λ n g all. no_more _ n at g (λ i j li lj e. elim (cases_order i j) [
         | inl s ↦ s
         | inr o ↦ absurd (elim o [
           | inl l ↦ omega (arith, e, fan.increasing i j l lj)
           | inr l ↦ omega (arith, e, fan.increasing j i l li)
         ])
       ]) (λ i l. all (at i) (record { low = fan.dart i l; at = fan.leaves i l }));
-      least = λ n g some. no_more n (length darts) g at some.apart
-          (λ i l. fan.place (g i) (some.each i l).low (some.each i l).at);
+      least = λ n g some. no_more n _ g at some.apart (λ i l. fan.place (g i) (some.each i l).low (some.each i l).at);
     }
 
 -- Where a test gives `is_some`, there is a twin, and the other way round.
@@ -75,11 +74,10 @@ module _ (faces : Faces) (laws : IsQuadManifold (half_edges faces)) where
 
   -- and a vertex with a cross is inner and regular.
   pub cross_inner : (d : ℕ) → d < darts faces → HasCross (half_edges faces) d → is_inner faces (from_of faces d) ≡ true
-  cross_inner d l c = inner_from faces (from_of faces d) (λ x lx at. elim at [
-    | inl at ↦ (both_twins laws d c.0 c.1 c.2 l c.3 x (record { low = lx; at = at })).1
+  cross_inner d l c = inner_from faces _ (λ x lx at. elim at [
+    | inl at ↦ (both_twins laws d c.0 _ c.2 l c.3 x (record { low = lx; at = at })).1
     | inr at ↦
-        let t = (both_twins laws d c.0 c.1 c.2 l c.3 (next_of x)
-        (record { low = laws.next_low x lx; at = at })).0 in
+        let t = (both_twins laws d _ c.1 _ l c.3 (next_of x) (record { low = laws.next_low x lx; at = at })).0 in
         (t.0, ap (twin_of faces) (sym (laws.prev_next x)) ∙ t.1)
   ])
 
@@ -103,10 +101,9 @@ module _ (faces : Faces) (laws : IsQuadManifold (half_edges faces)) where
   pub same_face : (x y : ℕ) → x / 4 ≡ y / 4 → (k : ℕ) × (y ≡ spin (half_edges faces) k x)
   same_face x y e =
       let first : x ≡ spin (half_edges faces) (x % 4) (4 * (x / 4)) =
-      omega arith ∙ from_first (x / 4) (x % 4) (omega arith) in
-      let last : y ≡ spin (half_edges faces) (y % 4) (4 * (x / 4)) =
-      omega arith ∙ from_first (x / 4) (y % 4) (omega arith) in
-      let back = spin_back laws (x % 4) (4 * (x / 4)) in
+      omega arith ∙ from_first _ (x % 4) (omega arith) in
+      let last : y ≡ spin (half_edges faces) (y % 4) (4 * (x / 4)) = omega arith ∙ from_first _ (y % 4) (omega arith) in
+      let back = spin_back laws (x % 4) _ in
       let home = back.1 ∙ ap (spin (half_edges faces) back.0) (sym first) in
       let join = spin_join laws (y % 4) back.0 x in
       (join.0, last ∙ (ap (spin (half_edges faces) (y % 4)) home ∙ join.1))
@@ -134,9 +131,8 @@ module _ (faces : Faces) (laws : IsQuadManifold (half_edges faces)) (marks : Lis
           | inl at ↦ (uncut x lx at).0
           | inr at ↦ ap cut (sym (laws.prev_next x)) ∙ (uncut (next_of x) (laws.next_low x lx) at).1
         ] in
-        let inner = inner_from faces (from_of faces d)
-        (λ x lx at. twin_there x lx (off x lx at) (twin_of faces x) refl) in
-        regular_cross faces laws d l inner (elim (cases_Bool (is_regular faces (from_of faces d))) [
+        let inner = inner_from _ _ (λ x lx at. twin_there x lx (off x lx at) _ refl) in
+        regular_cross _ laws d l inner (elim (cases_Bool (is_regular faces (from_of faces d))) [
           | inl on ↦ on
           | inr other ↦
               let e = full.irregular d l other in

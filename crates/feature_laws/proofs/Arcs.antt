@@ -1,19 +1,18 @@
 -- Each arc of the cut is marked in all its edges or in none.
 use Rattle.std.proofs.Common.{rules, ◌≡◌, ℕ, zero, suc, ◌<◌, Bool, true, false, ◌&&◌, List, Some, sym, ap, ◌∙◌, refl}
-use Rattle.std.proofs.Common.{inl, inr, arith}
-use Rattle.std.proofs.{lemmas.Bool.and_parts, lemmas.Bool.false≢true, lemmas.Option.same_Some}
-use Rattle.def_mesh.specs.{Faces.Faces, Darts.darts, Darts.from_of, Darts.to_of, Darts.next_of, Darts.prev_of}
-use Rattle.def_mesh.specs.{Darts.twin_of, Manifold.IsManifold, HalfEdges.HalfEdges, HalfEdges.IsQuadManifold}
-use Rattle.def_mesh.specs.{HalfEdges.half_edges, Vertices.fan_of}
+use Rattle.std.proofs.{Common.inl, Common.inr, Common.arith, lemmas.Bool.and_parts, lemmas.Bool.false≢true}
+use Rattle.def_mesh.specs.Darts.{darts, from_of, to_of, next_of, prev_of, twin_of}
+use Rattle.def_mesh.specs.HalfEdges.{HalfEdges, IsQuadManifold, half_edges}
 use Rattle.def_cut.specs.{Cuts.IsCross, Cuts.IsCut, FullCut.is_on, Steps.step_east, Steps.easts}
-use Rattle.def_layout.specs.{Arcs.IsRun, Nodes.is_node, Nodes.AreNodes}
 use Rattle.def_feature.specs.{Laws.MarkedArcLaw, Beside.IsCutBeside, Beside.BesideArcLaw, Marks.AreMarks}
-use Rattle.def_feature.specs.{Marked.marked_cut}
 use Rattle.cut_laws.proofs.Crosses.{at_c, low_b, low_c}
-use Rattle.face_laws.proofs.FullCuts.{full_cut_law}
-use Rattle.layout_laws.proofs.{FaceNodes.are_nodes, Runs.GoesStraight, Runs.run_low, Runs.run_goes}
-use Rattle.feature_laws.proofs.{Breaks.break_turns, Breaks.from_fan, Breaks.twin_on, Breaks.two_ways}
+use Rattle.layout_laws.proofs.Runs.{GoesStraight, run_low, run_goes}
+use Rattle.feature_laws.proofs.Breaks.{break_turns, from_fan, twin_on, two_ways}
 use Rattle.feature_laws.proofs.{Conforming.marked_law, Conforming.soon_cut, First.origin_soon}
+use Rattle.{std.proofs.lemmas.Option.same_Some, def_mesh.specs.Faces.Faces, def_mesh.specs.Manifold.IsManifold}
+use Rattle.{def_mesh.specs.Vertices.fan_of, def_layout.specs.Arcs.IsRun, def_layout.specs.Nodes.is_node}
+use Rattle.{def_layout.specs.Nodes.AreNodes, def_feature.specs.Marked.marked_cut}
+use Rattle.{face_laws.proofs.FullCuts.full_cut_law, layout_laws.proofs.FaceNodes.are_nodes}
 use Rattle.{sum_laws.proofs.Tests.same_test, mesh_laws.proofs.Chains.manifold_law, motion_laws.proofs.Among.any_where}
 
 module _ (faces : Faces) (m : IsManifold faces) (marks : List Bool) (marked : AreMarks faces marks)
@@ -75,15 +74,14 @@ module _ (faces : Faces) (m : IsManifold faces) (marks : List Bool) (marked : Ar
   backward : (e : ℕ) → e < darts faces → GoesStraight mesh (is_on cut_marks) e
       → is_node faces cut_marks (to_of faces e) ≡ false → is_on marks (east e) ≡ true → is_on marks e ≡ true
   backward e l g inner on =
-      let twin = twin_on faces m marks marked (east e) g.low on in
+      let twin = twin_on _ m _ marked _ g.low on in
       let there : is_node faces cut_marks (from_of faces (step_east (half_edges faces) e)) ≡ false =
       ap (is_node faces cut_marks) g.from ∙ inner in
       let (a, b, c, k) = nodes.through (east e) twin.0 g.low (kept.kept (east e) g.low on) twin.1 there in
       let right : a ≡ next_of e = same_Some a (next_of e)
       (sym k.first ∙ laws.twin_twin (next_of e) (prev_of (east e)) (laws.next_low e l) g.over) in
-      let is : twin_of faces e ≡ Some b =
-      ap (twin_of faces) (sym (ap prev_of right ∙ laws.prev_next e)) ∙ k.second in
-      sym (marked.alike e b l is) ∙ opposite (east e) a b c g.low k there on
+      let is : twin_of faces e ≡ Some b = ap (twin_of faces) (sym (ap prev_of right ∙ laws.prev_next e)) ∙ k.second in
+      sym (marked.alike e b l is) ∙ opposite _ a b c g.low k there on
 
   along : (s n : ℕ) → IsRun mesh (is_on cut_marks) (is_node faces cut_marks) s n → (k : ℕ) → k < n
       → is_on marks (easts mesh s k) ≡ is_on marks s
@@ -102,15 +100,8 @@ beside_arc_law faces marks cut_marks m marked kept s n run k l = along faces m m
 pub traced_beside : (faces : Faces) (m : IsManifold faces) (marks : List Bool) (marked : AreMarks faces marks)
     → IsCutBeside faces marks (marked_cut faces marks)
 traced_beside faces m marks marked =
-    let cut_marks = marked_cut faces marks in
     let kept = marked_law faces marks m marked in
-    let cut = ((full_cut_law faces cut_marks m).0 kept.full).1 in
-    record {
-      full = kept.full;
-      kept = kept.kept;
-      turned = break_turns faces m marks marked cut_marks cut.alike
-          (λ e l o. soon_cut faces m marks marked e l (origin_soon faces m marks marked e l o));
-    }
+    search (rules, break_turns, soon_cut, origin_soon)
 
 pub marked_arc_law : MarkedArcLaw
 marked_arc_law faces marks m marked s n run k l = search (rules, along, traced_beside)

@@ -1,7 +1,7 @@
 -- Marked edges at a vertex: a line goes straight on there, or it begins. A trail leads to each marked dart.
 use Rattle.std.proofs.Common.{rules, ◌≡◌, ◌⊎◌, ℕ, ◌<◌, ◌≤◌, Bool, true, false, not, ◌&&◌, ◌||◌, List, Option, Some}
 use Rattle.std.proofs.Common.{None, is_some, sym, ap, ◌∙◌, refl, inl, inr, arith, zero, suc, ltb}
-use Rattle.std.proofs.lemmas.Bool.{cases_Bool, cond-true, or_left, or_right, and_from, and_parts, not_from_false}
+use Rattle.std.proofs.lemmas.Bool.{cases_Bool, or_left, or_right, and_from, and_parts, not_from_false}
 use Rattle.std.proofs.lemmas.Bool.{false≢true, false_from_ne_true, cases_lt, cases_eq, le-ltb}
 use Rattle.{std.proofs.lemmas.Option.same_Some, def_runs.specs.Runs.is_passed, def_runs.specs.Runs.follower}
 use Rattle.def_mesh.specs.Darts.{darts, from_of, to_of, next_of, prev_of, twin_of, straight_of}
@@ -10,7 +10,7 @@ use Rattle.def_mesh.specs.{Kinds.is_regular, Components.seeds, Components.is_sta
 use Rattle.def_mesh.specs.{HalfEdges.IsQuadManifold, HalfEdges.half_edges}
 use Rattle.def_cut.specs.{Cuts.IsCross, Cuts.HasCross, FullCut.is_on, Motion.is_among, Steps.or_zero, Trails.IsStraight}
 use Rattle.def_cut.specs.{Trails.Trail}
-use Rattle.def_feature.specs.Marks.{AreMarks, is_found_on, goes_through, is_crossed, is_break, goes_round, is_touched}
+use Rattle.def_feature.specs.Marks.{AreMarks, goes_through, is_crossed, is_break, goes_round}
 use Rattle.{def_feature.specs.Beside.is_turn, def_feature.specs.Marked.is_origin, motion_laws.proofs.Bits.rotated}
 use Rattle.cut_laws.proofs.Crosses.{at_a, both_twins, low_a, low_b, low_c, one_of_four}
 use Rattle.cut_laws.proofs.{Folds.turn_from, Folds.turn_low, Pigeon.comes_back}
@@ -84,8 +84,7 @@ module _ (faces : Faces) (m : IsManifold faces) (marks : List Bool) (marked : Ar
       let ahead : straight_of faces (prev_of c) ≡ Some b = ap (λ y. option_map next_of (twin_of faces y))
       (laws.next_prev c) ∙ (ap (option_map next_of) (laws.twin_twin (prev_of b) c
       (laws.prev_low b (low_b laws x a b c l k)) k.third) ∙ ap Some (laws.next_prev b)) in
-      ap (goes_through faces marks) over ∙ (ap (λ o. is_on marks (prev_of c) && is_found_on o marks) ahead
-      ∙ ap (λ q. q && is_on marks b) (marked.alike x (prev_of c) l over))
+      search rules
 
   -- At a cross where d is marked, the opposite edge is marked, or both beside it are, or lines break there.
   pub two_ways : (d a b c : ℕ) → d < darts faces → is_on marks d ≡ true → IsCross (half_edges faces) d a b c
@@ -105,9 +104,7 @@ module _ (faces : Faces) (m : IsManifold faces) (marks : List Bool) (marked : Ar
       → (e ≡ d) ⊎ ((e ≡ a) ⊎ ((e ≡ b) ⊎ (e ≡ c))) → goes_through faces marks (twin_of faces e) ≡ true → ⊥ =
       λ off side e s y. elim s [
         | inl s ↦ false≢true (sym off ∙ (through e d b s (through_is d a b c l k) y).1)
-        | inr (inl s) ↦
-            let p = through e a c s (through_is a b c d la k1) y in
-            false≢true (sym side ∙ and_from _ _ p.0 p.1)
+        | inr (inl s) ↦ search (rules, through_is)
         | inr (inr (inl s)) ↦ false≢true (sym off ∙ (through e b d s (through_is b c d a lb k2) y).0)
         | inr (inr (inr s)) ↦
             let p = through e c a s (through_is c d a b (low_c laws d a b c l k) k3) y in
@@ -124,8 +121,7 @@ module _ (faces : Faces) (m : IsManifold faces) (marks : List Bool) (marked : Ar
               let f = from_fan faces v found.0 found.1 in
               not_through off side found.0 (one_of_four laws d a b c l k found.0
               (record { low = f.0; at = f.1 })) found.2) in
-              inr (inr (and_from _ _ (cross_passed d l (a, b, c, k))
-              (or_left _ _ (and_from _ _ touched (not_from_false _ none)))))
+              search (rules, cross_passed)
         ]
       ]
 
@@ -143,10 +139,9 @@ module _ (faces : Faces) (m : IsManifold faces) (marks : List Bool) (marked : Ar
       let t = (both_twins laws d a b c l k d (record { low = l; at = refl })).1 in
       let back = laws.prev_low d l in
       let la = low_a laws d a b c l k in
-      let on_a = on a la (break_origin a (prev_of d) (laws.twin_twin (prev_of d) a back k.first)
+      let on_a = on a la (break_origin a _ (laws.twin_twin (prev_of d) a back k.first)
       (ap (is_break faces marks) (at_a laws d a b c l k) ∙ y)) in
-      any_at (λ e. is_on cut e && is_on cut (prev_of e)) d (fan_of faces (from_of faces d))
-      (in_fan faces (from_of faces d) d l refl) (and_from _ _ (on d l (break_origin d t.0 t.1 y))
+      any_at _ d _ (in_fan _ _ d l refl) (and_from _ _ (on d l (break_origin d _ t.1 y))
       (sym (alike (prev_of d) a back k.first) ∙ on_a))
 
   -- At a boundary vertex with more than two faces so is each dart with a twin, and at a singular one.
@@ -179,8 +174,7 @@ module _ (faces : Faces) (m : IsManifold faces) (marks : List Bool) (marked : Ar
           record {
             low = rw is (laws.prev_low a a_low);
             on = ap (is_on marks) is ∙ (sym (marked.alike (prev_of a) b (laws.prev_low a a_low) k.second) ∙ yb);
-            follows = ap (follower faces) is ∙ (cond-true (is_passed faces (to_of faces (prev_of a)))
-                (straight_of faces (prev_of a)) None passed_there ∙ ahead);
+            follows = search rules;
             straight = (
               prev_of d,
               ap (λ x. twin_of faces (next_of x)) is ∙ (ap (twin_of faces) (laws.next_prev a) ∙ a_twin),
@@ -197,8 +191,7 @@ module _ (faces : Faces) (m : IsManifold faces) (marks : List Bool) (marked : Ar
         | inr (inl both) ↦
             let over = laws.twin_twin (prev_of c) d (laws.prev_low c (low_c laws d a b c l k)) k.last in
             let after : next_of t ≡ c = ap next_of (same_Some t (prev_of c) (sym w ∙ over)) ∙ laws.next_prev c in
-            inl (beside t w (or_left _ _ (sym (marked.alike (prev_of d) a (laws.prev_low d l) k.first) ∙ both.0))
-            (or_left _ _ (ap (is_on marks) after ∙ both.1)))
+            inl (beside t w (search rules) (or_left _ _ (ap (is_on marks) after ∙ both.1)))
         | inr (inr y) ↦ inl (or_left _ _ (break_origin d t w y))
       ]
 
@@ -234,18 +227,8 @@ least_below f zero = (0, omega arith, λ j l. let e : j ≡ 0 = omega arith in o
 least_below f (suc n) =
     let before = least_below f n in
     elim (cases_lt (f (suc n)) (f before.0)) [
-      | inl less ↦ (
-        suc n,
-        omega arith,
-        λ j h. elim (cases_eq j (suc n))
-            [ inl e ↦ omega (arith, ap f e) | inr ne ↦ omega (arith, before.2 j (omega arith)) ],
-      )
-      | inr more ↦ (
-        before.0,
-        omega (arith, before.1),
-        λ j h. elim (cases_eq j (suc n))
-            [ inl e ↦ omega (arith, ap f e) | inr ne ↦ before.2 j (omega arith) ],
-      )
+      | inl less ↦ (suc n, omega arith, search rules)
+      | inr more ↦ (before.0, omega (arith, before.1), search rules)
     ]
 
 module _ (faces : Faces) (m : IsManifold faces) (marks : List Bool) (marked : AreMarks faces marks) where
@@ -288,8 +271,7 @@ module _ (faces : Faces) (m : IsManifold faces) (marks : List Bool) (marked : Ar
     -- A line that goes back without end comes round.
     module _ (f : Far (darts faces)) where
       come : (k : ℕ) × (k < darts faces) × (backs faces d (suc k) ≡ d)
-      come = comes_back (darts faces) (backs faces d) (λ k l. (back_low (darts faces) k f l).0)
-          (λ i j li lj e. same_Some _ _ (sym (f i li).follows ∙ (ap (follower faces) e ∙ (f j lj).follows)))
+      come = comes_back (darts faces) (backs faces d) (λ k l. (back_low (darts faces) k f l).0) (search rules)
 
       -- The least vertex of the round.
       least : (i : ℕ) × (i ≤ come.0) × ((j : ℕ) → j ≤ come.0 → from_of faces (at i) ≤ from_of faces (at j))
@@ -324,14 +306,13 @@ module _ (faces : Faces) (m : IsManifold faces) (marks : List Bool) (marked : Ar
       led_round : Led d
       led_round =
           let v = from_of faces first in
-          let there = back_low (darts faces) least.0 f (omega (arith, least.1, come.1)) in
-          let ring = any_at (goes_round faces marks v (darts faces)) first (fan_of faces v)
-          (in_fan faces v first there.0 refl) (round (darts faces) least.0 least.1) in
+          let there = back_low _ least.0 f (omega (arith, least.1, come.1)) in
+          let ring = any_at _ first _ (in_fan faces v _ there.0 refl) (round (darts faces) _ least.1) in
           let breaks : is_break faces marks (from_of faces (backs faces d least.0)) ≡ true = and_from _ _ (goes least.0
-          least.1).passed (or_right (is_touched faces marks v && not (is_crossed faces marks v)) _ ring) in
-          let t = twin_on faces m marks marked first there.0 there.1 in
-          led_on least.0 (λ k l. goes k (omega (arith, l, least.1)))
-          (0, or_left _ _ (break_origin faces m marks marked first t.0 t.1 breaks))
+          least.1).passed (or_right _ _ ring) in
+          let t = twin_on faces m _ marked first there.0 there.1 in
+          led_on _ (λ k l. goes k (omega (arith, l, least.1)))
+          (0, or_left _ _ (break_origin faces m _ marked first _ t.1 breaks))
 
     pub marked_trail : Led d
     marked_trail = elim (far (darts faces)) [ inl t ↦ t | inr f ↦ led_round f ]

@@ -8,7 +8,6 @@ use Rattle.std.proofs.{lemmas.List.FromFn.get_or-map-range_with_len}
 use Rattle.def_mesh.specs.Darts.{darts, all_darts, from_of, to_of, next_of, prev_of, twin_of, straight_of}
 use Rattle.def_mesh.specs.{Faces.Faces, Manifold.IsManifold, Kinds.is_end, Kinds.is_inner, Kinds.is_regular}
 use Rattle.def_mesh.specs.{Kinds.is_singular, HalfEdges.HalfEdges, HalfEdges.IsQuadManifold, HalfEdges.half_edges}
-use Rattle.def_mesh.specs.{Vertices.vertex_count}
 use Rattle.def_cut.specs.{Cuts.IsCross, Cuts.IsCut, FullCut.is_on, Motion.State, Motion.ridden, Motion.is_among}
 use Rattle.def_cut.specs.{Trails.IsStraight, Trails.Trail, Traced.terrain_of, Traced.is_cut}
 use Rattle.def_feature.specs.Conforming.{is_source, Line, IsLed, IsLined, IsConforming, ConformingLaw, StraightLaw}
@@ -16,7 +15,7 @@ use Rattle.def_feature.specs.{Beside.IsCutBeside, Marks.AreMarks, Marked.is_orig
 use Rattle.def_feature.specs.{Marked.marked_last, Marked.marked_cut, Laws.KeepsMarks, Laws.MarkedLaw}
 use Rattle.cut_laws.proofs.Crosses.{low_b, low_c, at_b, at_c, both_twins}
 use Rattle.face_laws.proofs.FullCuts.{inner_twin, regular_cross, full_cut_law}
-use Rattle.motion_laws.proofs.{Among.any_at, Among.any_where, Among.among_range, Among.range_among, Among.cases_Option}
+use Rattle.motion_laws.proofs.{Among.any_at, Among.any_where, Among.among_range, Among.range_among}
 use Rattle.motion_laws.proofs.{Onward.full_cut, Onward.nobody_runs, Onward.end_reached, Steps.trail_more}
 use Rattle.motion_laws.proofs.{Bits.IsCrossedAt, Bits.IsReachedFrom, Bits.crossed_at, Bits.IsSoon}
 use Rattle.feature_laws.proofs.Breaks.{begins, break_turns, cross_passed, twin_on, marked_trail}
@@ -35,13 +34,8 @@ mark_low (b ∷ bs) (suc d) on = let l = mark_low bs d on in omega arith
 pub follows : (faces : Faces) (c d : ℕ) → follower faces c ≡ Some d → (is_passed faces (to_of faces c) ≡ true)
     × IsStraight (half_edges faces) c d
 follows faces c d e = elim (cases_Bool (is_passed faces (to_of faces c))) [
-  | inr off ↦ let f = rw off at e in absurd cc
-  | inl on ↦
-      let f = rw on at e in
-      elim (cases_Option (twin_of faces (next_of c))) [
-        | inl w ↦ let g = rw w at f in absurd cc
-        | inr (t, w) ↦ (on, (t, w, sym (same_Some (next_of t) d (rw w at f))))
-      ]
+  | inr off ↦ absurd cc
+  | inl on ↦ search rules
 ]
 
 module _ (faces : Faces) (m : IsManifold faces) (marks : List Bool) (marked : AreMarks faces marks) (cut : List Bool)
@@ -62,17 +56,13 @@ module _ (faces : Faces) (m : IsManifold faces) (marks : List Bool) (marked : Ar
   some_there None e = absurd (false≢true e)
   some_there (Some t) e = (t, refl)
 
-  -- An origin has a twin.
-  origin_twin : (d : ℕ) → d < darts faces → is_origin faces marks d ≡ true → HasTwin d
-  origin_twin d l y = search (rules, inner_twin)
-
   alike : (d t : ℕ) → d < darts faces → twin_of faces d ≡ Some t → is_on cut t ≡ is_on cut d
   alike d t l w =
       let over : (x y : ℕ) → x < darts faces → twin_of faces x ≡ Some y → is_on cut x ≡ true → is_on cut y ≡ true =
       λ x y lx is on.
       let ly = laws.twin_low x y lx is in
       elim ((conform.lined x lx).0 on) [
-        | inl none ↦ let clash : None ≡ Some y = sym none ∙ is in absurd cc
+        | inl none ↦ absurd cc
         | inr (inl led) ↦ to_cut y ly (inr (inr (x, laws.twin_twin x y lx is, led)))
         | inr (inr other) ↦ to_cut y ly (inr (inl (rw (same_Some y other.0 (sym is ∙ other.1)) other.2)))
       ] in
@@ -144,12 +134,11 @@ module _ (faces : Faces) (m : IsManifold faces) (marks : List Bool) (marked : Ar
       ∙ ap (λ o. is_on cut d && is_some o) (laws.twin_twin d t l w) ∙ sym (ap (λ o. is_on cut d && is_some o) w)
 
   stands_end : (v d : ℕ) → d < darts faces → covers d ≡ true → is_end faces v d ≡ true → stands v ≡ true
-  stands_end v d l y e = any_at (λ x. covers x && is_end faces v x) d (all_darts faces)
-      (among_range 0 (darts faces) d (omega arith) (omega arith)) (and_from _ _ y e)
+  stands_end v d l y e = any_at _ d (all_darts faces) (among_range 0 _ d (omega arith) (omega arith)) (and_from _ _ y e)
 
   source_covered : (d : ℕ) → d < darts faces → is_source faces marks d ≡ true → covers d ≡ true
   source_covered d l y = elim (or_cases (is_origin faces marks d) _ y) [
-    | inl o ↦ covered_led d l (origin_twin d l o) (0, y)
+    | inl o ↦ covered_led d l (search (rules, inner_twin)) (0, y)
     | inr k ↦ covered_led d l (twin_on faces m marks marked d l k) (0, y)
   ]
 
@@ -233,14 +222,10 @@ module _ (faces : Faces) (m : IsManifold faces) (marks : List Bool) (marked : Ar
   conforms : IsCutBeside faces marks cut
   conforms = record {
     full =
-        let made = full_cut (terrain_of faces) (terrain faces m) (begins faces marks) (marked_first faces marks)
-        (marked_begin faces m marks marked) ended reached refl in
-        (full_cut_law faces cut m).1 (
-          conform.long,
-          same_cut mesh laws (is_cut (terrain_of faces) ended) (is_on cut) same made,
-        );
-    kept = λ d l on. to_cut d l (inr (inl (0, or_right (is_origin faces marks d) _ on)));
-    turned = break_turns faces m marks marked cut alike (λ e l o. to_cut e l (inr (inl (0, or_left _ _ o))));
+        let made = full_cut _ (terrain _ m) _ _ (marked_begin _ m _ marked) _ reached refl in
+        (full_cut_law faces cut m).1 (conform.long, same_cut _ laws _ _ same made);
+    kept = λ d l on. to_cut d l (inr (inl (0, or_right _ _ on)));
+    turned = break_turns _ m _ marked _ alike (λ e l o. to_cut e l (inr (inl (0, or_left _ _ o))));
   }
 
 pub conforming_law : ConformingLaw
@@ -258,19 +243,16 @@ mark_is faces marks d l = search (rules, get_or-map-range_with_len)
 
 module _ (faces : Faces) (m : IsManifold faces) (marks : List Bool) (marked : AreMarks faces marks) where
   none : ridden (marked_last faces marks).riders ≡ []
-  none = nobody_runs (terrain_of faces) (terrain faces m) (begins faces marks) (marked_first faces marks)
-      (marked_begin faces m marks marked) (vertex_count faces) (all_below faces)
+  none = nobody_runs _ (terrain _ m) _ _ (marked_begin _ m _ marked) _ (all_below _)
 
   last : IsReachedFrom (terrain_of faces) (begins faces marks) (marked_first faces marks) (marked_last faces marks)
   last = search (rules, end_reached, terrain, marked_begin, all_below)
 
   cut : IsCut (half_edges faces) (is_cut (terrain_of faces) (marked_last faces marks))
-  cut = full_cut (terrain_of faces) (terrain faces m) (begins faces marks) (marked_first faces marks)
-      (marked_begin faces m marks marked) (marked_last faces marks) last none
+  cut = full_cut _ (terrain _ m) _ _ (marked_begin _ m _ marked) _ last none
 
   long : length (marked_cut faces marks) ≡ darts faces
-  long = length-map (all_darts faces) (is_cut (terrain_of faces) (marked_last faces marks))
-      ∙ length-range_with_len 0 (darts faces)
+  long = length-map (all_darts faces) (is_cut (terrain_of faces) (marked_last faces marks)) ∙ length-range_with_len 0 _
 
   covered : (d : ℕ) → IsSoon (marked_last faces marks) d → (marked_last faces marks).covered d ≡ true
   covered d (inl c) = c
@@ -286,8 +268,7 @@ module _ (faces : Faces) (m : IsManifold faces) (marks : List Bool) (marked : Ar
     rests = none;
     full = (full_cut_law faces (marked_cut faces marks) m).1 (
       long,
-      same_cut (half_edges faces) (manifold_law faces m) (is_cut (terrain_of faces) (marked_last faces marks))
-          (is_on (marked_cut faces marks)) (mark_is faces marks) cut,
+      same_cut _ (manifold_law faces m) _ _ (mark_is _ _) cut,
     );
     kept = λ d l on. soon_cut d l (inl on);
   }

@@ -1,20 +1,18 @@
 -- A line is led dart by dart.
 use Rattle.std.proofs.Common.{rules, ◌≡◌, ◌⊎◌, ℕ, suc, ◌+◌, ◌<◌, Bool, true, false, List, length, set, Some, sym, ◌∙◌}
 use Rattle.std.proofs.Common.{ap, refl, inl, inr, arith, zero, cond, map, None, ◌≤◌, replicate}
-use Rattle.std.proofs.lemmas.Bool.{cases_eq, false≢true, cases_Bool, or_left, or_right, or_cases, cases_lt}
-use Rattle.std.proofs.lemmas.Bool.{false_from_ne_true}
+use Rattle.std.proofs.lemmas.Bool.{false≢true, cases_Bool, or_left, or_right, or_cases, cases_lt, false_from_ne_true}
 use Rattle.std.proofs.lemmas.List.{get_or-set_same, length-set, length-map, ext_get_or, length-replicate}
-use Rattle.std.proofs.{lemmas.Option.same_Some, lemmas.List.FromFn.length-range_with_len}
-use Rattle.std.proofs.{lemmas.List.FromFn.get_or-map-range_with_len}
-use Rattle.def_mesh.specs.{Faces.Faces, Darts.darts, Darts.all_darts, Darts.twin_of, Manifold.IsManifold}
-use Rattle.def_cut.specs.{FullCut.is_on, Motion.is_among}
+use Rattle.std.proofs.lemmas.List.FromFn.{length-range_with_len, get_or-map-range_with_len}
+use Rattle.def_mesh.specs.Darts.{darts, all_darts, twin_of}
 use Rattle.feature_laws.specs.Leads.{From, IsClosed, IsLedFrom, IsLeading, IsNext, AreLed, is_led_edge}
-use Rattle.def_feature.specs.{Conforming.is_source, Conforming.Line, Conforming.IsConforming, Marked.marked_starts}
-use Rattle.def_feature.specs.{Marks.AreMarks}
+use Rattle.def_feature.specs.Conforming.{is_source, Line, IsConforming}
 use Rattle.feature_laws.proofs.{First.origin_in, First.origin_of, Conforming.follows, Conforming.mark_low}
 use Rattle.motion_laws.proofs.{Among.cases_Option, Marks.none_on, Onward.no_more_at}
-use Rattle.sum_laws.proofs.{Sums.count_below_lt, Tests.same_test}
-use Rattle.{def_runs.specs.Runs.follower, mesh_laws.proofs.Chains.manifold_law, def_math.specs.Counts.count_below}
+use Rattle.{std.proofs.lemmas.Option.same_Some, def_mesh.specs.Faces.Faces, def_mesh.specs.Manifold.IsManifold}
+use Rattle.{def_cut.specs.FullCut.is_on, def_cut.specs.Motion.is_among, def_feature.specs.Marked.marked_starts}
+use Rattle.{def_feature.specs.Marks.AreMarks, sum_laws.proofs.Sums.count_below_lt, def_runs.specs.Runs.follower}
+use Rattle.{mesh_laws.proofs.Chains.manifold_law, def_math.specs.Counts.count_below}
 
 -- One mark more.
 pub set_there : (xs : List Bool) (k : ℕ) → k < length xs → is_on (set xs k true) k ≡ true
@@ -54,8 +52,7 @@ module _ (faces : Faces) (s : ℕ) (old : List Bool) where
       by_mark x e g (inl same) = inr same
       by_mark x e g (inr on) = elim (is.closed x e on g) [
         | inl y ↦ inl (set_kept now next e l y)
-        | inr same ↦ let ahead : e ≡ next = same_Some e next (sym g ∙ (ap (follower faces) same ∙ f)) in inl
-            (ap (is_on (set now next true)) ahead ∙ set_there now next l)
+        | inr same ↦ search rules
       ]
 
 -- One source more.
@@ -68,8 +65,7 @@ led_more faces sources old new d true low is led on off =
     record {
       long = line.long ∙ led.long;
       closed = line.closed;
-      there = λ x l y. elim (cases_eq x d)
-          [ inl e ↦ ap (is_on new) e ∙ line.there | inr ne ↦ line.kept x (led.there x (omega arith) y) ];
+      there = search rules;
       sound = λ x y. elim (line.sound x y) [ inl was ↦ led.sound x was | inr path ↦ (d, low, sym is, path.0, path.1) ];
     }
 
@@ -108,9 +104,9 @@ module _ (faces : Faces) (m : IsManifold faces) (marks : List Bool) (starts : Li
   pub conforms : IsConforming faces marks cut
   conforms = record {
     long = ap length is ∙ (length-map (all_darts faces) (λ d. is_led_edge led d (twin_of faces d))
-        ∙ length-range_with_len 0 (darts faces));
+        ∙ length-range_with_len 0 _);
     lined = λ d l. (
-      λ y. elim (cases_Option (twin_of faces d)) [
+      λ y. elim (cases_Option _) [
         | inl w ↦ inl w
         | inr (t, w) ↦ elim (or_cases _ _ (rw (value d l, w) at y))
             [ inl a ↦ inr (inl (led_line d a)) | inr b ↦ inr (inr (t, w, led_line t b)) ]
@@ -118,12 +114,11 @@ module _ (faces : Faces) (m : IsManifold faces) (marks : List Bool) (starts : Li
       λ y. elim (cases_Option (twin_of faces d)) [
         | inl w ↦ rw (value d l, w) refl
         | inr (t, w) ↦ rw (value d l, w) (elim y [
-          | inl none ↦ let clash : None ≡ Some t = sym none ∙ w in absurd cc
-          | inr (inl line) ↦ or_left _ _ (line_led d line.0 l line.1)
+          | inl none ↦ absurd cc
+          | inr (inl line) ↦ or_left _ _ (line_led d _ l line.1)
           | inr (inr (u, v, line)) ↦
               let same : u ≡ t = same_Some u t (sym v ∙ w) in
-              or_right (is_on led d) _ (ap (is_on led) (sym same)
-              ∙ line_led u line.0 ((manifold_law faces m).twin_low d u l v) line.1)
+              or_right _ _ (ap (is_on led) (sym same) ∙ line_led u _ ((manifold_law faces m).twin_low d u l v) line.1)
         ])
       ],
     );
@@ -134,8 +129,7 @@ module _ (faces : Faces) (m : IsManifold faces) (marks : List Bool) (starts : Li
 pub one_conforming : (faces : Faces) (marks one other : List Bool) → IsConforming faces marks one
     → IsConforming faces marks other → one ≡ other
 one_conforming faces marks one other a b =
-    let same : (d : ℕ) → d < darts faces → is_on one d ≡ is_on other d = λ d l. same_test _ _
-    (λ y. (b.lined d l).1 ((a.lined d l).0 y)) (λ y. (a.lined d l).1 ((b.lined d l).0 y)) in
+    let same : (d : ℕ) → d < darts faces → is_on one d ≡ is_on other d = search rules in
     ext_get_or false one other (a.long ∙ sym b.long) (λ d l. same d (omega (arith, l, a.long)))
 
 module _ (faces : Faces) (m : IsManifold faces) where
@@ -148,8 +142,7 @@ module _ (faces : Faces) (m : IsManifold faces) where
       let low : k < length led = omega arith in
       let less : cond (is_on (set led k true) k) 0 1 < cond (is_on led k) 0 1 =
       rw (set_there led k low, off) (omega arith) in
-      count_below_lt (λ d. cond (is_on (set led k true) d) 0 1) (λ d. cond (is_on led d) 0 1) (darts faces) k l
-      (λ d h. no_more_at (is_on led d) (is_on (set led k true) d) (set_kept led k d low)) less
+      search (rules, count_below_lt, no_more_at, set_kept)
 
   next_low : (d e : ℕ) → d < darts faces → follower faces d ≡ Some e → e < darts faces
   next_low d e l f =
@@ -163,7 +156,7 @@ module _ (faces : Faces) (m : IsManifold faces) where
   lead_on s old long (suc fuel) now at is l =
       let go = lead_on s old long fuel in
       elim (cases_Option (follower faces at)) [
-        | inl f ↦ (now, done (λ e g. let clash : None ≡ Some e = sym f ∙ g in absurd cc))
+        | inl f ↦ (now, done (λ e g. absurd cc))
         | inr (e, f) ↦ elim (cases_Bool (is_on now e)) [
           | inl on ↦ (now, done (λ x g. ap (is_on now) (same_Some x e (sym g ∙ f)) ∙ on))
           | inr off ↦
@@ -185,24 +178,22 @@ module _ (faces : Faces) (m : IsManifold faces) where
 
   led_below : (sources : List Bool) (n : ℕ) → n ≤ darts faces → (led : List Bool) × AreLed faces sources led n
   led_below sources zero le = (
-    replicate (darts faces) false,
+    replicate (darts _) false,
     record {
-      long = length-replicate (darts faces) false;
-      closed = λ x e on f. absurd (false≢true (sym (none_on (darts faces) x) ∙ on));
+      long = length-replicate (darts _) false;
+      closed = search (rules, none_on);
       there = λ d l y. absurd (omega arith);
-      sound = λ d on. absurd (false≢true (sym (none_on (darts faces) d) ∙ on));
+      sound = search (rules, none_on);
     },
   )
   led_below sources (suc n) le =
       let (led, is) = led_below sources n (omega (arith, le)) in
       elim (cases_Bool (is_on sources n)) [
-        | inr y ↦
-            up led (led_more faces sources led led n false le (sym y) is (λ t. absurd (false≢true t)) (λ t. refl))
+        | inr y ↦ up led (search rules)
         | inl y ↦
-            let line = lead_on n led is.long (suc (unled (set led n true))) (set led n true) n
-            (lead_begins faces n led is.long le is.closed) (omega arith) in
-            up line.0 (led_more faces sources led line.0 n true le (sym y) is (λ t. line.1)
-            (λ t. absurd (false≢true (sym t))))
+            let line = lead_on n _ is.long (suc (unled (set led n true))) _ n
+            (lead_begins _ n _ is.long le is.closed) (omega arith) in
+            up line.0 (led_more _ _ _ _ n _ le (sym y) is (λ t. line.1) (λ t. absurd (false≢true (sym t))))
       ]
     where
       up : (new : List Bool) → AreLed faces sources new (n + 1) → (led : List Bool) × AreLed faces sources led (suc n)

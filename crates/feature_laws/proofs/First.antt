@@ -4,7 +4,7 @@ use Rattle.std.proofs.Common.{subst, ap, ◌∙◌, refl, inl, inr, arith, zero,
 use Rattle.std.proofs.lemmas.Bool.{cases_Bool, eq-eqb, eqb-true, or_left, or_right, or_cases, and_from, and_parts}
 use Rattle.std.proofs.lemmas.Bool.{false≢true, false_from_ne_true}
 use Rattle.std.{proofs.lemmas.List.length-replicate, specs.List.list_any, specs.List.filter}
-use Rattle.def_mesh.specs.Darts.{darts, all_darts, from_of, to_of, next_of, prev_of, twin_of}
+use Rattle.def_mesh.specs.Darts.{darts, all_darts, from_of, to_of, next_of, twin_of}
 use Rattle.def_mesh.specs.{Faces.Faces, Manifold.IsManifold, Kinds.is_end, Kinds.is_inner, Kinds.is_singular}
 use Rattle.def_mesh.specs.{Components.seeds, Components.is_start, Components.start_darts, HalfEdges.HalfEdges}
 use Rattle.def_mesh.specs.{HalfEdges.IsQuadManifold, HalfEdges.half_edges, Vertices.vertex_count}
@@ -20,7 +20,7 @@ use Rattle.motion_laws.proofs.{Bits.IsFirst, Bits.IsSoon, Bits.IsShut, Bits.IsCr
 use Rattle.motion_laws.proofs.{Steps.ridden_begun, Steps.shut_before, Steps.shut_beside, Marks.none_on}
 use Rattle.site_laws.proofs.{Sites.terrain, Sites.started, Sites.all_start, Sources.start_in, Sources.start_of}
 use Rattle.site_laws.proofs.{Sources.found}
-use Rattle.feature_laws.proofs.Breaks.{begins, is_held, is_held_after, twin_on, two_ways, marked_trail}
+use Rattle.feature_laws.proofs.Breaks.{begins, twin_on, two_ways, marked_trail}
 use Rattle.{mesh_laws.proofs.Chains.manifold_law}
 
 -- Among the starts.
@@ -73,10 +73,6 @@ module _ (faces : Faces) (m : IsManifold faces) (marks : List Bool) (marked : Ar
       → from_of faces e ≡ from_of faces d → twin_of faces e ≡ Some x → IsSoon (marked_first faces marks) e
   spread d l y e x le at w = origin_soon e le (all_origins d e x l le y at w)
 
-  -- What is held is shut.
-  held_shut : (d : ℕ) → is_held faces marks d ≡ true → IsShutFirst d
-  held_shut d h = search rules
-
   -- At a cross where some dart is an origin, all are soon.
   by_origin : (v x : ℕ) → x < darts faces → from_of faces x ≡ v → HasCross mesh x → is_origin faces marks x ≡ true
       → IsCrossedFirst v
@@ -93,15 +89,13 @@ module _ (faces : Faces) (m : IsManifold faces) (marks : List Bool) (marked : Ar
     | inl yb ↦ crossed_at l at k (inl on) (inl yb)
     | inr (inl both) ↦ crossed_at (low_a laws x a b c l k) (at_a laws x a b c l k ∙ at)
         (rotated mesh laws x a b c l k) (inl both.0) (inl both.1)
-    | inr (inr y) ↦ by_origin v x l at (a, b, c, k) (or_right (is_start faces (seeds faces) x) _
-        (and_from _ _ (ap is_some (twin_on faces m marks marked x l on).1) y))
+    | inr (inr y) ↦ by_origin v x l at (a, b, c, k) (search rules)
   ]
 
   -- Both ends of a marked edge are known.
   stood_end : (v d : ℕ) → d < darts faces → is_on marks d ≡ true → is_end faces v d ≡ true → first.stood v ≡ true
-  stood_end v d l on e = or_right (list_any (λ x. eqb (from_of faces x) v) starts) _
-      (any_at (λ x. is_on marks x && is_end faces v x) d (all_darts faces)
-      (among_range 0 (darts faces) d (omega arith) (omega arith)) (and_from _ _ on e))
+  stood_end v d l on e = or_right _ _ (any_at _ d (all_darts faces) (among_range 0 (darts faces) d (omega arith)
+      (omega arith)) (and_from _ _ on e))
 
   pub marked_begin : IsFirst (terrain_of faces) (begins faces marks) (marked_first faces marks)
   marked_begin = record {
@@ -147,21 +141,15 @@ module _ (faces : Faces) (m : IsManifold faces) (marks : List Bool) (marked : Ar
                 ]
           ];
     };
-    found = λ d l. let by = found faces m d l in (
-      by.0,
-      by.1,
-      by.2,
-      elim by.3
-          [ inl s ↦ inl (or_left _ _ (or_left _ _ (start_of faces by.0 s).1)) | inr a ↦ inr a ],
-    );
+    found = λ d l. let by = found faces m d l in search (rules, start_of);
     begun = λ d l y. elim (or_cases _ _ y) [ inl o ↦ origin_soon d l o | inr h ↦ inl (and_parts _ _ h).0 ];
     before = λ d l y. elim (or_cases _ _ y) [
       | inl o ↦ shut_before (terrain_of faces) (terrain faces m) (marked_first faces marks) d l (spread d l o)
-      | inr h ↦ held_shut (prev_of d) (and_parts _ _ (and_parts _ _ h).1).0
+      | inr h ↦ search rules
     ];
     beside = λ d t l y w. elim (or_cases _ _ y) [
       | inl o ↦ shut_beside (terrain_of faces) (terrain faces m) (marked_first faces marks) d l (spread d l o) t w
-      | inr h ↦ held_shut (next_of t) (sym (ap (is_held_after faces marks) w) ∙ (and_parts _ _ (and_parts _ _ h).1).1)
+      | inr h ↦ search rules
     ];
     singular = λ d low s. inl (origin_soon d low (or_left _ _ (or_left _ _ s)));
     sided = λ d l out. elim ((started faces m).sided d l out) [

@@ -35,21 +35,20 @@ module _ (mesh : HalfEdges) (laws : IsQuadManifold mesh) (cut : Cut) (full : IsC
     over : (s : Way) (t : ℕ) → suc t < side_size p s
         → mesh.twin (mesh.next (border_dart mesh p s t)) ≡ Some (mesh.prev (border_dart mesh p s (suc t)))
     over south t l = grid.east t 0 l grid.tall
-    over east t l = cc
-        (grid.north (p.w - 1) t (omega (arith, grid.wide)) l, laws.prev_next (cell_of p (p.w - 1) (suc t)))
+    over east t l = cc (grid.north (p.w - 1) t (omega (arith, grid.wide)) l, laws.prev_next (cell_of p _ _))
     over north t l =
         let e : p.w - 1 - t ≡ suc (p.w - 1 - suc t) = omega arith in
         cc (
           west_link laws full grid (p.w - 1 - suc t) (p.h - 1) (omega arith) (omega arith),
-          prev_three laws (cell_of p (suc (p.w - 1 - suc t)) (p.h - 1)),
-          laws.prev_next (mesh.next (cell_of p (p.w - 1 - suc t) (p.h - 1))),
+          prev_three laws _,
+          laws.prev_next (mesh.next (cell_of p _ _)),
         )
     over west t l =
         let e : p.h - 1 - t ≡ suc (p.h - 1 - suc t) = omega arith in
         cc (
           south_link laws full grid 0 (p.h - 1 - suc t) grid.wide (omega arith),
-          laws.next_prev (cell_of p 0 (suc (p.h - 1 - suc t))),
-          prev_twice laws (cell_of p 0 (p.h - 1 - suc t)),
+          laws.next_prev (cell_of p 0 _),
+          prev_twice laws _,
         )
 
     -- Each side is a line.
@@ -66,28 +65,23 @@ module _ (mesh : HalfEdges) (laws : IsQuadManifold mesh) (cut : Cut) (full : IsC
     line east = search rules
     line north = record {
       some = grid.wide;
-      low = λ t l. laws.next_low (mesh.next (cell_of p (p.w - 1 - t) (p.h - 1))) (laws.next_low
-          (cell_of p (p.w - 1 - t) (p.h - 1)) (grid.low (p.w - 1 - t) (p.h - 1) (omega arith) (omega arith)));
-      on = λ t l. grid.north_shut (p.w - 1 - t) (p.h - 1) (omega arith) (omega arith);
-      next = λ t l. from_over (border_dart mesh p north t) (border_dart mesh p north (suc t)) (over north t l);
+      low = search rules;
+      on = search rules;
+      next = search (rules, from_over, over);
       over = over north;
-      first = ap cut (laws.prev_next (mesh.next (cell_of p (p.w - 1 - 0) (p.h - 1))))
-          ∙ grid.east_shut (p.w - 1 - 0) (p.h - 1) (omega arith) (omega arith);
+      first = search rules;
       last = λ t e. let zero_is : p.w - 1 - t ≡ 0 = omega arith in
           ap (λ x. cut (mesh.next (mesh.next (mesh.next (cell_of p x (p.h - 1)))))) zero_is
-          ∙ (ap cut (sym (prev_three laws (cell_of p 0 (p.h - 1))))
-          ∙ grid.west_shut (p.h - 1) (omega arith));
+          ∙ (ap cut (sym (prev_three laws (cell_of p 0 (p.h - 1)))) ∙ grid.west_shut (p.h - 1) (omega arith));
     }
     line west = record {
       some = grid.tall;
-      low = λ t l. laws.prev_low (cell_of p 0 (p.h - 1 - t)) (grid.low 0 (p.h - 1 - t) grid.wide (omega arith));
+      low = search rules;
       on = λ t l. grid.west_shut (p.h - 1 - t) (omega arith);
-      next = λ t l. from_over (border_dart mesh p west t) (border_dart mesh p west (suc t)) (over west t l);
+      next = search (rules, from_over, over);
       over = over west;
-      first = ap cut (prev_twice laws (cell_of p 0 (p.h - 1 - 0))) ∙ grid.north_shut 0 (p.h - 1 - 0) grid.wide
-          (omega arith);
-      last = λ t e. let zero_is : p.h - 1 - t ≡ 0 = omega arith in ap cut (laws.next_prev (cell_of p 0 (p.h - 1 - t)))
-          ∙ (ap (λ x. cut (cell_of p 0 x)) zero_is ∙ grid.south_shut 0 grid.wide);
+      first = search (rules, prev_twice);
+      last = search rules;
     }
 
     -- A cut side of a cell lies on a side of the patch.
@@ -100,24 +94,18 @@ module _ (mesh : HalfEdges) (laws : IsQuadManifold mesh) (cut : Cut) (full : IsC
       | inr ne ↦ absurd (cc (grid.east_open i j (omega arith) lj))
     ]
     on_side (suc (suc zero)) i j d li lj e on = elim (cases_eq (suc j) p.h) [
-      | inl z ↦ let row : p.h - 1 ≡ j = omega arith in let column : p.w - 1 - (p.w - 1 - i) ≡ i = omega arith in (
-        north,
-        p.w - 1 - i,
-        omega arith,
-        ap (λ x. mesh.next (mesh.next (cell_of p x (p.h - 1)))) column
-            ∙ (ap (λ x. mesh.next (mesh.next (cell_of p i x))) row ∙ sym e),
-      )
+      | inl z ↦ let row : p.h - 1 ≡ j = omega arith in let column : p.w - 1 - (p.w - 1 - i) ≡ i = omega arith in
+          search rules
       | inr ne ↦ absurd (true≢false (sym on ∙ (ap cut e ∙ grid.north_open i j li (omega arith))))
     ]
     on_side (suc (suc (suc zero))) zero j d li lj e on = let row : p.h - 1 - (p.h - 1 - j) ≡ j = omega arith in (
       west,
       p.h - 1 - j,
       omega arith,
-      ap (λ x. mesh.prev (cell_of p 0 x)) row ∙ (prev_three laws (cell_of p 0 j) ∙ sym e),
+      ap (λ x. mesh.prev (cell_of p 0 x)) row ∙ (prev_three laws _ ∙ sym e),
     )
-    on_side (suc (suc (suc zero))) (suc i) j d li lj e on =
-        absurd (true≢false (sym on ∙ (ap cut (e ∙ sym (prev_three laws (cell_of p (suc i) j)))
-        ∙ west_open laws full grid i j li lj)))
+    on_side (suc (suc (suc zero))) (suc i) j d li lj e on
+        = absurd (true≢false (sym on ∙ (ap cut (e ∙ sym (prev_three laws _)) ∙ west_open laws full grid i j li lj)))
     on_side (suc (suc (suc (suc k)))) i j d li lj e on =
         on_side k i j d li lj (e ∙ laws.four_sides (spin mesh k (cell_of p i j))) on
 
@@ -170,8 +158,7 @@ module _ (mesh : HalfEdges) (laws : IsQuadManifold mesh) (cut : Cut) (full : IsC
           | inr ne ↦ (u, n, on, omega arith, omega arith)
           | inl e ↦
               let here : easts mesh (b u) (t - u) ≡ b t = line_easts u (t - u) (omega arith) ∙ ap b (omega arith) in
-              let begins = ap node (line_from t l) ∙ (ap (λ x. node (end_vertex mesh x)) (sym here)
-              ∙ on.run.ends (t - u) (omega arith)) in
+              let begins = ap node (line_from t l) ∙ (search rules) in
               let r = runs_from (suc t) l begins in
               (suc t, r.0, r.1, omega arith, omega arith)
         ]
@@ -180,8 +167,7 @@ module _ (mesh : HalfEdges) (laws : IsQuadManifold mesh) (cut : Cut) (full : IsC
     pub run_fits : (t n : ℕ) → t < size → IsRun mesh cut node (b t) n → t + n ≤ size
     run_fits t n l run = elim (cases_lt size (t + n)) [
       | inl far ↦ absurd (false≢true (sym (run.inside (size - suc t) (omega arith))
-          ∙ (ap (λ x. node (end_vertex mesh x)) (line_easts t (size - suc t) (omega arith))
-          ∙ line_ends (t + (size - suc t)) (omega arith))))
+          ∙ (ap (λ x. node (end_vertex mesh x)) (line_easts t _ (omega arith)) ∙ line_ends _ (omega arith))))
       | inr h ↦ h
     ]
 

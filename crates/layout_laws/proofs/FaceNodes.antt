@@ -1,12 +1,12 @@
 -- The nodes of a cut of faces are what the laws of layouts need of nodes.
 use Rattle.std.proofs.Common.{rules, ◌≡◌, ◌⊎◌, ℕ, zero, suc, ◌<◌, ◌≤◌, Bool, true, false, not, List, [], ◌∷◌, length}
 use Rattle.std.proofs.Common.{get_or, Some, None, is_some, sym, ◌∙◌, ap, refl, inl, inr, arith}
-use Rattle.std.proofs.lemmas.Bool.{cases_Bool, cases_eq, or_parts, not-false, ltb-false, and_from, true_from_ne_false}
+use Rattle.std.proofs.lemmas.Bool.{cases_Bool, cases_eq, or_parts, not-false, and_from, true_from_ne_false}
 use Rattle.def_mesh.specs.{Darts.darts, Darts.from_of, Darts.to_of, Darts.next_of, Darts.prev_of, Darts.twin_of}
 use Rattle.def_mesh.specs.{HalfEdges.half_edges, HalfEdges.Turns, HalfEdges.IsQuadManifold, Faces.Faces}
 use Rattle.def_mesh.specs.{Vertices.fan_of, Kinds.is_inner, Kinds.is_regular}
 use Rattle.def_cut.specs.{Cuts.IsCross, Cuts.HasCross, Cuts.IsCut, FullCut.is_on}
-use Rattle.def_layout.specs.Nodes.{is_lone_before, cut_degree, is_node, AreNodes}
+use Rattle.def_layout.specs.Nodes.{is_lone_before, is_node, AreNodes}
 use Rattle.cut_laws.proofs.Crosses.{Leaves, HasFan, of_four, no_fix, low_a, low_b, low_c, at_a, at_b, at_c, four_apart}
 use Rattle.cut_laws.proofs.{Pigeon.no_more, Folds.turn_from, Folds.turn_low, Folds.two_darts, Folds.next_same}
 use Rattle.face_laws.proofs.FullCuts.{has_fan, inner_from, inner_twin, regular_cross}
@@ -42,9 +42,6 @@ two_each : (P : ℕ → Type 0) {x y : ℕ} → P x → P y → (j : ℕ) → P 
 two_each P a b zero = a
 two_each P a b (suc j) = b
 
-two_apart : (x y : ℕ) → (x ≡ y → ⊥) → (i j : ℕ) → i < 2 → j < 2 → of_two x y i ≡ of_two x y j → i ≡ j
-two_apart x y h1 i j h2 h3 h4 = search rules
-
 abbrev of_three : (x y z k : ℕ) → ℕ
 of_three x y z zero = x
 of_three x y z (suc k) = of_two y z k
@@ -53,18 +50,11 @@ three_each : (P : ℕ → Type 0) {x y z : ℕ} → P x → P y → P z → (j :
 three_each P a b c zero = a
 three_each P a b c (suc j) = two_each P b c j
 
-three_apart : (x y z : ℕ) → (x ≡ y → ⊥) → (x ≡ z → ⊥) → (y ≡ z → ⊥) → (i j : ℕ) → i < 3 → j < 3
-    → of_three x y z i ≡ of_three x y z j → i ≡ j
-three_apart x y z h1 h2 h3 i j h4 h5 h6 = search rules
-
 module _ (faces : Faces) (laws : IsQuadManifold (half_edges faces)) (marks : List Bool)
     (full : IsCut (half_edges faces) (is_on marks)) where
   -- A vertex that is no node is regular, and has at most two edges of the cut.
   regular_at : (v : ℕ) → is_node faces marks v ≡ false → is_regular faces v ≡ true
   regular_at v off = not-false (is_regular faces v) (or_parts (not (is_regular faces v)) _ off).0
-
-  degree_at : (v : ℕ) → is_node faces marks v ≡ false → cut_degree faces marks v ≤ 2
-  degree_at v off = ltb-false 2 (cut_degree faces marks v) (or_parts (not (is_regular faces v)) _ off).1
 
   -- Dart d of the cut leaves v.
   abbrev IsOn : (v d : ℕ) → Type 0
@@ -74,21 +64,17 @@ module _ (faces : Faces) (laws : IsQuadManifold (half_edges faces)) (marks : Lis
   three_leave : (v x y z : ℕ) → IsOn v x → IsOn v y → IsOn v z → (x ≡ y → ⊥) → (x ≡ z → ⊥) → (y ≡ z → ⊥)
       → is_node faces marks v ≡ false → ⊥
   three_leave v x y z a b c xy xz yz off =
-      let some = fan_least faces v (is_on marks) 3 (of_three x y z) (λ j l. three_each (IsOn v) a b c j)
-      (three_apart x y z xy xz yz) in
-      let few = degree_at v off in
-      omega arith
+      let some = fan_least _ v (is_on marks) 3 _ (λ j l. three_each (IsOn v) a b c j) (search rules) in
+      search rules
 
   two_and_one : (v x y z : ℕ) → IsOn v x → IsOn v y → z < darts faces → from_of faces z ≡ v → (x ≡ y → ⊥)
       → twin_of faces (prev_of z) ≡ None → is_node faces marks v ≡ false → ⊥
   two_and_one v x y z a b lz az ne lone off =
-      let passes = and_from (is_on marks (prev_of z)) _ (full.boundary (prev_of z) (laws.prev_low z lz) lone)
+      let passes = and_from _ _ (full.boundary (prev_of z) (laws.prev_low z lz) lone)
       (ap (λ o. not (is_some o)) lone) in
-      let some = fan_least faces v (is_on marks) 2 (of_two x y) (λ j l. two_each (IsOn v) a b j) (two_apart x y ne) in
-      let one = fan_least faces v (is_lone_before faces marks) 1 (λ j. z) (λ j l. (lz, az, passes))
-      (λ i j li lj e. omega arith) in
-      let few = degree_at v off in
-      omega arith
+      let some = fan_least _ v (is_on marks) 2 _ (λ j l. two_each (IsOn v) a b j) (search rules) in
+      let one = fan_least _ v (is_lone_before faces marks) 1 _ (λ j l. (lz, az, passes)) (λ i j li lj e. omega arith) in
+      search rules
 
   -- No three darts leave a vertex with two faces.
   no_third : (v x y z : ℕ) → HasFan (half_edges faces) v 2 → Leaves (half_edges faces) v x
@@ -96,14 +82,14 @@ module _ (faces : Faces) (laws : IsQuadManifold (half_edges faces)) (marks : Lis
   no_third v x y z fan a b c xy xz yz =
       let many = fan.least 3 (of_three x y z) (record {
         each = λ j l. three_each (Leaves (half_edges faces) v) a b c j;
-        apart = three_apart x y z xy xz yz;
+        apart = search rules;
       }) in
       omega arith
 
   -- A vertex with two faces, from its first dart on.
   two_faces : (v x : ℕ) → HasFan (half_edges faces) v 2 → x < darts faces → from_of faces x ≡ v
       → twin_of faces (prev_of x) ≡ None → (t : ℕ) × (twin_of faces x ≡ Some t) × (twin_of faces (next_of t) ≡ None)
-  two_faces v x fan lx at lone = elim (none_or (twin_of faces x)) [
+  two_faces v x fan lx at lone = elim (none_or _) [
     | inl is ↦
         let few = fan.most 1 (λ j. x) (λ z l. let t = laws.one_fan x z lx l.low (cc) in
         (0, omega arith, alone is t.0 z t.1)) in
@@ -113,15 +99,14 @@ module _ (faces : Faces) (laws : IsQuadManifold (half_edges faces)) (marks : Lis
         let ly = laws.next_low t lt in
         let ay = (laws.twin_ends x t lx is).1 ∙ at in
         let x_y : x ≡ next_of t → ⊥ = λ e. cc (laws.prev_next t, laws.twin_twin x t lx is) in
-        elim (none_or (twin_of faces (next_of t))) [
+        elim (none_or _) [
           | inl none ↦ (t, is, none)
           | inr (s, some) ↦
               let ls = laws.twin_low _ s ly some in
               let back = laws.twin_twin _ s ly some in
               absurd (no_third v x _ _ fan (record { low = lx; at = at }) (record { low = ly; at = ay })
               (record { low = laws.next_low s ls; at = (laws.twin_ends _ s ly some).1 ∙ ay }) x_y
-              (λ e. cc (laws.prev_next s))
-              (λ e. x_y (cc (next_same laws t s e, laws.twin_twin x t lx is))))
+              (λ e. cc (laws.prev_next s)) (λ e. x_y (cc (next_same laws t s e, laws.twin_twin x t lx is))))
         ]
   ]
     where
@@ -151,9 +136,7 @@ module _ (faces : Faces) (laws : IsQuadManifold (half_edges faces)) (marks : Lis
         let d_a : d ≡ a → ⊥ = λ e. no_fix laws d ld (cc) in
         let back = laws.twin_twin (prev_of d) a (laws.prev_low d ld) is in
         elim (none_or (twin_of faces (prev_of a))) [
-          | inl none ↦
-              let (t, over, end) = two_faces _ a fan la aa none in
-              inr (a, record { turn = is; apart = d_a; lone = none; end = cc (over, end, back, laws.next_prev d) })
+          | inl none ↦ search (rules, two_faces)
           | inr (b, some) ↦ elim (cases_eq b d) [
             | inl e ↦ absurd (cc (closed a la is back (some ∙ ap Some e)))
             | inr ne ↦ absurd (no_third _ d a b fan (record { low = ld; at = refl }) (record { low = la; at = aa })
@@ -209,22 +192,21 @@ module _ (faces : Faces) (laws : IsQuadManifold (half_edges faces)) (marks : Lis
 
   corner : (d : ℕ) → d < darts faces → is_on marks d ≡ true → is_on marks (prev_of d) ≡ true
       → is_node faces marks (from_of faces d) ≡ true
-  corner d ld on before = true_from_ne_false (is_node faces marks (from_of faces d))
-      (λ off. elim (cases_Bool (is_inner faces (from_of faces d))) [
-        | inl inner ↦
-            let (a, b, c, is) = regular_cross faces laws d ld inner (regular_at _ off) in
-            by_cross off a b c is
-        | inr outer ↦
-            let fan = boundary_fan _ (regular_at _ off) outer in
-            elim (first_or_second d ld outer fan) [
-              | inl lone ↦ no_first d ld on fan lone off
-              | inr (a, second) ↦
-                  let la = turn_low laws d a ld second.turn in
-                  let aa = turn_from laws d a ld second.turn in
-                  let on_a = full.alike _ a (laws.prev_low d ld) second.turn ∙ before in
-                  two_and_one _ d a a (ld, refl, on) (la, aa, on_a) la aa second.apart second.lone off
-            ]
-      ])
+  corner d ld on before = true_from_ne_false _ (λ off. elim (cases_Bool (is_inner _ (from_of faces d))) [
+    | inl inner ↦
+        let (a, b, c, is) = regular_cross faces laws d ld inner (regular_at _ off) in
+        by_cross off a b c is
+    | inr outer ↦
+        let fan = boundary_fan _ (regular_at _ off) outer in
+        elim (first_or_second d ld outer fan) [
+          | inl lone ↦ no_first d ld on fan lone off
+          | inr (a, second) ↦
+              let la = turn_low laws d a ld second.turn in
+              let aa = turn_from laws d a ld second.turn in
+              let on_a = full.alike _ a (laws.prev_low d ld) second.turn ∙ before in
+              two_and_one _ d a a (ld, refl, on) (la, aa, on_a) la aa second.apart second.lone off
+        ]
+  ])
     where
       -- With four faces the cut goes on from the twin of d.
       by_cross : is_node faces marks (from_of faces d) ≡ false → (a b c : ℕ) → IsCross (half_edges faces) d a b c → ⊥

@@ -1,7 +1,7 @@
 -- Straight runs of a cut from node to node.
 use Rattle.std.proofs.Common.{rules, ◌≡◌, ◌⊎◌, ℕ, zero, suc, ◌+◌, ◌-◌, ◌<◌, ◌≤◌, Bool, true, false, Option, Some, None}
 use Rattle.std.proofs.Common.{sym, ◌∙◌, ap, refl, inl, inr, arith}
-use Rattle.std.proofs.lemmas.Bool.{cases_eq, cases_lt, cases_order, false≢true}
+use Rattle.std.proofs.lemmas.Bool.{cases_eq, cases_lt, cases_order}
 use Rattle.def_mesh.specs.HalfEdges.{HalfEdges, IsQuadManifold}
 use Rattle.def_cut.specs.{Cuts.Cut, Cuts.IsCut, Steps.or_zero, Steps.step_east, Steps.easts}
 use Rattle.def_layout.specs.{Arcs.end_vertex, Arcs.IsRun, Nodes.AreNodes}
@@ -45,10 +45,7 @@ module _ (mesh : HalfEdges) (laws : IsQuadManifold mesh) (cut : Cut) (full : IsC
     | inl is ↦
         let a = nodes.along d l is inner in
         straight d a.0 l a.1 (full.boundary _ (laws.next_low a.0 (laws.twin_low _ a.0 (laws.next_low d l) a.1)) a.2)
-    | inr some ↦ elim (full.gaps d l on) [
-      | inl c ↦ absurd (cc (nodes.corner (mesh.next d) (laws.next_low d l) c (ap cut (laws.prev_next d) ∙ on)))
-      | inr g ↦ straight d g.0 l g.1 g.2
-    ]
+    | inr some ↦ elim (full.gaps d l on) [ inl c ↦ search rules | inr g ↦ straight d g.0 l g.1 g.2 ]
   ]
 
   -- Straight on is injective.
@@ -72,13 +69,9 @@ module _ (mesh : HalfEdges) (laws : IsQuadManifold mesh) (cut : Cut) (full : IsC
       → ((k : ℕ) → k < i → node (end_vertex mesh (easts mesh s k)) ≡ false) → mesh.count ≤ i → ⊥
   walk_never s i l on begins inner far =
       let low : (k : ℕ) → k ≤ i → easts mesh s k < mesh.count = λ k h. (walked s i l on inner k h).0 in
-      let goes : (k : ℕ) → k < i → GoesStraight mesh cut (easts mesh s k) = λ k h. on_from (easts mesh s k)
-      (low k (omega arith)) (walked s i l on inner k (omega arith)).1 (inner k h) in
-      let r = comes_back mesh.count (easts mesh s) (λ k h. (walked s i l on inner k (omega arith)).0)
-      (λ a b la lb e. east_same (easts mesh s a) (easts mesh s b) (low a (omega arith)) (low b (omega arith))
-      (goes a (omega arith)).over (goes b (omega arith)).over e) in
-      let h : r.0 < i = omega (arith, r.1) in
-      false≢true (sym (inner r.0 h) ∙ (ap node (sym (goes r.0 h).from) ∙ (ap (λ x. node (mesh.from x)) r.2 ∙ begins)))
+      let goes : (k : ℕ) → k < i → GoesStraight mesh cut (easts mesh s k) = search (rules, on_from, walked) in
+      let r = comes_back _ _ (λ k h. (walked s i l on inner k (omega arith)).0) (search (rules, east_same)) in
+      search rules
 
   -- A run.
   pub run_low : (s n : ℕ) → IsRun mesh cut node s n → (k : ℕ) → k < n → easts mesh s k < mesh.count
@@ -101,8 +94,7 @@ module _ (mesh : HalfEdges) (laws : IsQuadManifold mesh) (cut : Cut) (full : IsC
   same_place s n r m one two (suc k) (suc j) lk lj e =
       let before : easts mesh s k ≡ easts mesh r j = east_same _ _ (run_low s n one k (omega arith))
       (run_low r m two j (omega arith)) (run_goes s n one k lk).over (run_goes r m two j lj).over e in
-      let p : (s ≡ r) × (k ≡ j) = same_place s n r m one two k j (omega arith) (omega arith) before in
-      (p.0, ap suc p.1)
+      search (rules, same_place s n r m one two k j (omega arith) (omega arith) before)
 
   pub same_length : (s n m : ℕ) → IsRun mesh cut node s n → IsRun mesh cut node s m → n ≡ m
   same_length s n m one two = elim (cases_order n m) [
@@ -111,7 +103,7 @@ module _ (mesh : HalfEdges) (laws : IsQuadManifold mesh) (cut : Cut) (full : IsC
   ]
     where
       shorter : (n m : ℕ) → IsRun mesh cut node s n → IsRun mesh cut node s m → n < m → ⊥
-      shorter zero m one two l = absurd (let some = one.some in omega arith)
+      shorter zero m one two l = absurd (omega arith)
       shorter (suc k) m one two l = cc (two.inside k (omega arith), one.ends k refl)
 
   -- Where the cut goes straight on over a vertex that is no node, both darts have twins or none has, and the twins go
@@ -137,18 +129,9 @@ module _ (mesh : HalfEdges) (laws : IsQuadManifold mesh) (cut : Cut) (full : IsC
       let last : mesh.prev c ≡ d = cc (laws.twin_twin (mesh.prev c) u (laws.prev_low c lc) is.last, back) in
       let right : c ≡ mesh.next d = cc (laws.next_prev c, last) in
       let over = ap mesh.twin (sym right) ∙ laws.twin_twin (mesh.prev b) c (laws.prev_low b lb) is.third in
-      let ahead : step_east mesh d ≡ b = ap (λ o. mesh.next (or_zero o)) over ∙ laws.next_prev b in
       let tb = laws.twin_twin (mesh.prev a) b (laws.prev_low a la) is.second in
       let ta = laws.twin_twin (mesh.prev u) a (laws.prev_low u lu) is.first in
-      let home : step_east mesh (mesh.prev a) ≡ u = cc (laws.next_prev a, ta, laws.next_prev u) in
-      record {
-        after = mesh.prev a;
-        is = cc (ahead, tb);
-        low = laws.prev_low a la;
-        back = home;
-        over = cc (laws.next_prev a, ta, home);
-        apart = λ e. is.apart (cc (e, ahead));
-      }
+      search rules
 
   twin_before : (d e : ℕ) → d < mesh.count → GoesStraight mesh cut d → node (end_vertex mesh d) ≡ false
       → mesh.twin (step_east mesh d) ≡ Some e → (u : ℕ) × (mesh.twin d ≡ Some u)
@@ -162,8 +145,7 @@ module _ (mesh : HalfEdges) (laws : IsQuadManifold mesh) (cut : Cut) (full : IsC
     | inl e ↦ (u.0, ap (λ x. mesh.twin (easts mesh s x)) (sym e) ∙ u.1)
     | inr ne ↦
         let b = twins_after s n run k u j (omega arith) (omega arith) in
-        let d = doubled (easts mesh s j) b.0 (run_low s n run j (omega arith)) (run.on j (omega arith))
-        (run.inside j l) b.1 in
+        let d = doubled _ _ (run_low s n run j (omega arith)) (run.on j (omega arith)) (run.inside j l) b.1 in
         (d.after, d.is)
   ]
 
@@ -192,12 +174,10 @@ module _ (mesh : HalfEdges) (laws : IsQuadManifold mesh) (cut : Cut) (full : IsC
           twins k (suc j) sum =
               let next = twins (suc k) j (omega arith) in
               let lk : suc k < n = omega arith in
-              let b = twin_before (easts mesh s k) (easts mesh last.0 j) (run_low s n run k (omega arith))
+              let b = twin_before _ _ (run_low s n run k (omega arith))
               (run_goes s n run k lk) (run.inside k lk) next in
-              let d = doubled (easts mesh s k) b.0 (run_low s n run k (omega arith)) (run.on k (omega arith))
-              (run.inside k lk) b.1 in
-              let same : d.after ≡ easts mesh last.0 j = cc (d.is, next) in
-              b.1 ∙ ap Some (sym d.back ∙ ap (step_east mesh) same)
+              let d = doubled _ _ (run_low s n run k (omega arith)) (run.on k (omega arith)) (run.inside k lk) b.1 in
+              search rules
 
           other : (j : ℕ) → j < n → (k : ℕ) × (k + suc j ≡ n)
           other j lj = (n - suc j, omega arith)
@@ -217,7 +197,7 @@ module _ (mesh : HalfEdges) (laws : IsQuadManifold mesh) (cut : Cut) (full : IsC
             begins = ap node (laws.twin_ends (easts mesh s e) last.0 (run_low s n run e (omega arith)) last.1).0
                 ∙ run.ends e far;
             on = λ j lj. let o : (k : ℕ) × (k + suc j ≡ n) = other j lj in let lo : o.0 < n = omega (arith, o.1) in
-                full.alike (easts mesh s o.0) (easts mesh last.0 j) (run_low s n run o.0 lo) (twins o.0 j o.1)
+                full.alike (easts mesh s o.0) (easts mesh last.0 j) (run_low s n run _ lo) (twins o.0 j o.1)
                 ∙ run.on o.0 lo;
             inside = λ j lj. let o : (k : ℕ) × (k + suc j ≡ n) = other j (omega arith) in inner j o.0 o.1 lj;
             ends = λ j e. ap node (back_to j 0 (omega arith)) ∙ run.begins;

@@ -62,8 +62,7 @@ module _ (mesh : HalfEdges) (laws : IsQuadManifold mesh) (cut : Cut) (full : IsC
   use_run darts false d arc at =
       let last = ap mesh.twin (sym (arc.each (length darts - 1) (omega arith)))
       ∙ (ap (λ x. mesh.twin (get_or darts x 0)) (omega arith) ∙ at) in
-      let (r, back) = back_run mesh laws cut full node nodes (get_or darts 0 0) (length darts) arc.run
-      (length darts - 1) d (omega arith) last in
+      let (r, back) = back_run _ laws _ full _ nodes _ _ arc.run _ d (omega arith) last in
       let e : r ≡ d = cc (back.twin (length darts - 1) 0 (omega arith), last) in
       record {
         run = rw e at back.run;

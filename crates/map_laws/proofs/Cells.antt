@@ -1,14 +1,13 @@
 -- The new faces patch by patch: those of a patch stand one after the other, row by row.
 use Rattle.std.proofs.Common.{rules, ◌≡◌, ℕ, zero, suc, ◌+◌, ◌*◌, ◌/◌, ◌%◌, ◌<◌, List, [], ◌∷◌, ◌++◌, map, refl, sym}
-use Rattle.std.proofs.Common.{◌∙◌, ap, ap₂, append_assoc, append-nil, arith, ◌-◌, ◌≤◌, subst}
-use Rattle.std.proofs.lemmas.Bool.{cond-true, lt-ltb}
-use Rattle.std.proofs.{lemmas.Grind.flat_map-append, lemmas.List.FromFn.map-range_with_len_more, Math.Nat.mul_comm}
-use Rattle.std.specs.{List.flat_map, List.range_with_len, Prelude.nat_lt}
+use Rattle.std.proofs.Common.{◌∙◌, ap, ap₂, append_assoc, append-nil, arith, ◌-◌}
+use Rattle.std.proofs.{lemmas.Grind.flat_map-append, lemmas.List.FromFn.map-range_with_len_more}
+use Rattle.std.specs.{List.flat_map, List.range_with_len}
 use Rattle.def_layout.specs.{Lengths.Lengths, Lengths.wide, Lengths.high, Cells.CellDart, Cells.dart, Gluings.south}
 use Rattle.def_layout.specs.{Gluings.Gluing}
 use Rattle.def_written.specs.{NewFaces.cell_in, NewFaces.cells_before, NewFaces.dart_of, NewFaces.patch_of}
-use Rattle.def_written.specs.{Numbers.before_arc, Numbers.before_patch, Numbers.vertices, Points.node, Points.IsPoint}
-use Rattle.written_laws.proofs.{Spacings.run_place, Spacings.run_here, Spacings.IsInRun, EdgeNumbers.in_rows}
+use Rattle.def_written.specs.{Numbers.before_arc, Numbers.before_patch, Numbers.vertices, Points.IsPoint}
+use Rattle.written_laws.proofs.{Spacings.run_place, Spacings.run_here, Spacings.IsInRun}
 use Rattle.def_remesh.specs.NewPoints.{along_arcs, inside_patches, point_at}
 use Rattle.{list_laws.proofs.Filters.map_range_same, def_math.specs.Runs.run_at}
 
@@ -22,8 +21,7 @@ range_join item a (suc n) =
     cc (
       map-range_with_len_more item 0 (a + n) (a + n) (omega arith),
       range_join item a n,
-      append_assoc
-          (map item (range_with_len 0 a)) (map (λ k. item (a + k)) (range_with_len 0 n)) (item (a + n) ∷ []),
+      append_assoc (map item (range_with_len 0 a)) (map (λ k. item (a + k)) (range_with_len 0 n)) (item (a + n) ∷ []),
       map-range_with_len_more (λ k. item (a + k)) 0 n n (omega arith),
     )
 
@@ -59,13 +57,11 @@ module _ (l : Gluing) (x : Lengths) where
       → List ℕ = λ p. flat_map text (map (λ k. item (cell_dart p k)) (range_with_len 0 (wide l x p * high l x p))) in
       let one : n + 1 ≡ suc n = omega arith in
       let w : ℕ = wide l x n * high l x n in
-      ap (λ m. flat_map whole (map (λ p. p) (range_with_len 0 m))) (sym one)
-      ∙ ap (flat_map whole) (map-range_with_len_more (λ p. p) 0 n n (omega arith))
-      ∙ flat_map-append whole (map (λ p. p) (range_with_len 0 n)) (n ∷ []) ∙ ap₂ (λ (xs ys : List ℕ). xs ++ ys)
-      (by_patches item text n (omega arith)) (append-nil (whole n) ∙ ap (flat_map text) (here (omega arith)))
-      ∙ sym (flat_map-append text (map (λ f. item (dart_of l x f south)) (range_with_len 0 (cells_before l x n)))
-      (map (λ k. item (dart_of l x (cells_before l x n + k) south)) (range_with_len 0 w)))
-      ∙ ap (flat_map text) (sym (range_join (λ f. item (dart_of l x f south)) (cells_before l x n) w))
+      ap (λ m. flat_map whole (map (λ p. p) (range_with_len 0 m))) (sym one) ∙ ap (flat_map whole)
+      (map-range_with_len_more _ 0 n n (omega arith)) ∙ flat_map-append whole _ (n ∷ [])
+      ∙ ap₂ (λ (xs ys : List ℕ). xs ++ ys) (by_patches item text n (omega arith)) (append-nil _ ∙ ap (flat_map text)
+      (here (omega arith))) ∙ sym (flat_map-append text _ (map (λ k. item (dart_of l x (cells_before l x n + k) south))
+      (range_with_len 0 w))) ∙ ap (flat_map text) (sym (range_join _ (cells_before l x n) w))
     where
       here : n < l.patches → map (λ k. item (cell_dart n k)) (range_with_len 0 (wide l x n * high l x n))
           ≡ map (λ k. item (dart_of l x (cells_before l x n + k) south)) (range_with_len 0 (wide l x n * high l x n))
@@ -74,31 +70,15 @@ module _ (l : Gluing) (x : Lengths) where
 -- The point with a number.
 
 module _ (l : Gluing) (new : Lengths) where
-  -- It is a node, or lies on an arc, or inside a patch.
-  pub at_node : (v : ℕ) → v < l.nodes → point_at l new v ≡ node v
-  at_node v low = cond-true (nat_lt v l.nodes) _ _ (lt-ltb _ _ low)
-
-  pub at_arc : (v : ℕ) → l.nodes ≤ v → v < l.nodes + before_arc new l.arcs
-      → point_at l new v ≡ along_arcs l new (v - l.nodes)
-  at_arc v from low = search rules
-
-  pub at_patch : (v : ℕ) → l.nodes + before_arc new l.arcs ≤ v
-      → point_at l new v ≡ inside_patches l new (v - (l.nodes + before_arc new l.arcs))
-  at_patch v from = search rules
-
   along_is : (t : ℕ) → t < before_arc new l.arcs → IsPoint l new (along_arcs l new t)
-  along_is t low =
-      let here = run_here (λ b. new b - 1) _ t low in (here.low, omega arith, omega arith)
+  along_is t low = let here = run_here _ _ t low in (here.low, omega arith, omega arith)
 
   inside_is : (t : ℕ) → t < before_patch l new l.patches → IsPoint l new (inside_patches l new t)
   inside_is t low =
       let p = run_at (before_patch l new) l.patches t in
       let here : IsInRun (λ q. (wide l new q - 1) * (high l new q - 1)) l.patches t p (t - before_patch l new p) =
       run_here (λ q. (wide l new q - 1) * (high l new q - 1)) _ t low in
-      let less : t - before_patch l new p < (high l new p - 1) * (wide l new p - 1) =
-      subst (λ n. t - before_patch l new p < n) (mul_comm (wide l new p - 1) (high l new p - 1)) here.inside in
-      let at = in_rows _ _ _ less in
-      (here.low, omega arith, omega arith, omega arith, omega arith)
+      search rules
 
   -- Each number below that of the vertices is that of a point.
   pub is_point : (v : ℕ) → v < vertices l new → IsPoint l new (point_at l new v)

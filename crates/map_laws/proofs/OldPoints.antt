@@ -4,7 +4,7 @@ use Rattle.std.proofs.Common.{None, Some}
 use Rattle.def_mesh.specs.{Darts.darts, Darts.next_of, Darts.from_of, Darts.to_of, HalfEdges.half_edges}
 use Rattle.def_mesh.specs.{Vertices.vertex_count}
 use Rattle.def_layout.specs.Gluings.{Way, south, east, north, west, Gluing, use_of}
-use Rattle.def_layout.specs.{Cells.CellDart, Cells.IsDart, Cells.dart, Cells.next, Cells.slot_dart, Lengths.Lengths}
+use Rattle.def_layout.specs.{Cells.CellDart, Cells.IsDart, Cells.dart, Cells.slot_dart, Lengths.Lengths}
 use Rattle.def_layout.specs.{Lengths.wide, Lengths.high, Lengths.AreLengths, Arcs.dart_at, Arcs.long_at}
 use Rattle.def_layout.specs.{Surfaces.IsSurface, Layouts.Layout, Layouts.gluing_of, Layouts.vertex_at}
 use Rattle.def_layout.specs.{Embeddings.IsEmbedding, declared.tmesh.SideArc.SideArc}
@@ -42,8 +42,7 @@ module _ (layout : Layout) (is : IsSomeLayout layout) where
   cell = cell_dart (half_edges is.faces) layout
 
   sided : IsEmbedding (half_edges is.faces) (gluing_of layout) (long_at layout.arcs)
-      (cell_dart (half_edges is.faces) layout)
-      (vertex_at layout) (dart_at layout.arcs)
+      (cell_dart (half_edges is.faces) layout) (vertex_at layout) (dart_at layout.arcs)
   sided = sides_in_mesh is.faces is.marks layout is.mesh is.quads is.cut is.laid
 
   -- At each point a dart leaves the old vertex.
@@ -51,19 +50,18 @@ module _ (layout : Layout) (is : IsSomeLayout layout) where
       × (from_of is.faces (cell d) ≡ old_vertex is.faces layout a)
   point_vertex (node n) low =
       let r = laid.reached n low in
-      let some = use_some l x laid.paved len r.0 r.1 in (
+      let some = use_some l x laid.paved len _ r.1 in (
         slot_dart l x r.0 0,
-        at_is l x laid.paved len r.0 0 r.1 some,
-        cc (at_from l x laid len r.0 0 r.1 some, use_begins l x (use_of l r.0) some),
-        cc (starts (half_edges is.faces) (manifold_law is.faces in_mesh.manifold) l x in_mesh.paved in_mesh.lengths
-            cell (vertex_at layout) (dart_at layout.arcs) sided r.0 r.1),
+        at_is l x laid.paved len _ 0 r.1 some,
+        cc (at_from l x laid len _ 0 r.1 some, use_begins l x (use_of l r.0) some),
+        cc (starts _ (manifold_law is.faces in_mesh.manifold) l x in_mesh.paved in_mesh.lengths _ _ _ sided _ r.1),
       )
   point_vertex (along a k) low =
       let f = laid.forward a low.0 in
       let less : k < x (use_of l f.0).arc = omega (arith, ap (λ (u : SideArc). x u.arc) f.2) in (
         slot_dart l x f.0 k,
-        at_is l x laid.paved len f.0 k f.1 less,
-        cc (at_from l x laid len f.0 k f.1 less, arc_inner l x a k low.1 low.2),
+        at_is l x laid.paved len _ k f.1 less,
+        cc (at_from l x laid len _ k f.1 less, arc_inner l x a k low.1 low.2),
         ap (from_of is.faces) (cc (sided.ahead f.0 k f.1 less (ap (λ (u : SideArc). u.forward) f.2))),
       )
   point_vertex (inside p i j) low = (
@@ -98,11 +96,10 @@ module _ (layout : Layout) (is : IsSomeLayout layout) where
   pub corners : (p a b : ℕ) → p < length layout.patches → a < wide l x p → b < high l x p
       → AreCorners p a b (cell_of (patch_at layout.patches p) a b)
   corners p a b p_low a_low b_low = record {
-    low = sided.low (dart p a b south) (at south);
-    south_west = old_from (dart p a b south) (at south);
-    south_east = cc (old_from (dart p a b east) (at east), sided.turned (dart p a b south));
-    north_east =
-        cc (old_from (dart p a b north) (at north), sided.turned (dart p a b east), sided.turned (dart p a b south));
+    low = sided.low (dart p a b _) (at south);
+    south_west = old_from _ (at south);
+    south_east = cc (old_from _ (at east), sided.turned (dart p a b south));
+    north_east = cc (old_from _ (at north), sided.turned (dart p a b _), sided.turned (dart p a b south));
     north_west = cc (
       old_from (dart p a b west) (at west),
       sided.turned (dart p a b north),
@@ -126,9 +123,8 @@ module _ (layout : Layout) (is : IsSomeLayout layout) where
       let less : i < x (use_of l w).arc = omega (arith, i_low, ap (λ (u : SideArc). x u.arc) same) in
       let d = slot_dart l x w i in
       let is_dart = at_is l x laid.paved len w i slot less in
-      let here : cell (slot_dart l x w i) ≡ dart_at layout.arcs a i =
-      sided.ahead w i slot less (ap (λ (u : SideArc). u.forward) same)
-      ∙ ap (λ (u : SideArc). dart_at layout.arcs u.arc i) same in
+      let here : cell (slot_dart l x w i) ≡ dart_at layout.arcs a i = sided.ahead w i slot less
+      (ap (λ (u : SideArc). u.forward) same) ∙ ap (λ (u : SideArc). dart_at layout.arcs u.arc i) same in
       record {
         low = sided.arc_low a i a_low i_low;
         first = ap (old_vertex is.faces layout)
@@ -136,7 +132,7 @@ module _ (layout : Layout) (is : IsSomeLayout layout) where
             ∙ old_from d is_dart ∙ ap (from_of is.faces) here;
         last = ap (old_vertex is.faces layout)
             (sym (at_to l x laid len w i slot less ∙ ap (λ (u : SideArc). use_point l x u (i + 1)) same))
-            ∙ old_from (next d) (next_is l x d is_dart) ∙ ap (from_of is.faces) (sided.turned d ∙ ap next_of here);
+            ∙ old_from _ (next_is l x d is_dart) ∙ ap (from_of is.faces) (sided.turned d ∙ ap next_of here);
       }
 
 -- The points of a new mesh are spaced, evenly or by any shares.
@@ -147,9 +143,8 @@ module _ (layout : Layout) (is : IsSomeLayout layout) (new : Lengths) (len : Are
   short : (arc : ℕ) → arc < length layout.arcs → new arc ≤ ONE
   short arc low = omega (
     arith,
-    vertices_few (gluing_of layout) new (laid_of layout is) len,
-    count_rises
-        (λ a. new a - 1) (suc arc) (length layout.arcs) (omega (arith, low)),
+    vertices_few _ _ (laid_of _ is) len,
+    count_rises (λ a. new a - 1) (suc arc) (length layout.arcs) (omega (arith, low)),
   )
 
   pub spacing_is : (shares : Option (List ℕ))

@@ -2,13 +2,12 @@
 use Rattle.std.proofs.Common.{rules, ◌≡◌, ℕ, zero, suc, ◌+◌, ◌-◌, ◌*◌, ◌/◌, ◌<◌, ◌≤◌, not, ap, inl, inr, arith}
 use Rattle.std.proofs.{lemmas.Bool.cases_eq, lemmas.Bool.cases_lt, lemmas.Nat.mul-le}
 use Rattle.def_layout.specs.Lengths.{Lengths, reach, size, wide, high, AreLengths}
-use Rattle.def_layout.specs.{Gluings.Way, Gluings.south, Gluings.east, Gluings.north, Gluings.west, Gluings.Gluing}
+use Rattle.def_layout.specs.{Gluings.Way, Gluings.south, Gluings.west, Gluings.Gluing}
 use Rattle.def_layout.specs.{Surfaces.IsSurface, declared.tmesh.SideArc.SideArc}
 use Rattle.def_written.specs.Places.{ONE, parameter, parameter_back, parameter_u, parameter_v, rest_at, ArcSpacing}
 use Rattle.def_written.specs.{Spacings.IsSpacing, Points.inside, Points.offset_at, Points.use_over, Points.IsPoint}
-use Rattle.written_laws.proofs.Sides.{first_slot, last_reach, long_at, place_on, slot, use_some, IsOn}
+use Rattle.written_laws.proofs.Sides.{first_slot, last_reach, place_on, slot, use_some, IsOn}
 use Rattle.written_laws.proofs.{Spacings.count_rises, Spacings.run_last, Spacings.run_place, Spacings.div_less}
-use Rattle.written_laws.proofs.{Rims.high_some, Rims.wide_some}
 
 -- What is left of a parameter in an old column or row.
 pub rest_less : (n u : ℕ) → 0 < n → u < ONE * n → rest_at n u < ONE
@@ -27,13 +26,8 @@ mean_less a b m h j some le a_low b_low =
 
 module _ (l : Gluing) (old new : Lengths) (spacing : ArcSpacing) (laid : IsSurface l) (o_len : AreLengths l old)
     (n_len : AreLengths l new) (spaced : IsSpacing l old new spacing) where
-  -- The last arc of a side lies at its end.
-  over_end : (p : ℕ) (s : Way) → p < l.patches → use_over l new p s (size l new p s) ≡ l.many p s - 1
-  over_end p s low = search (rules, run_last, last_reach)
-
   last_low : (p : ℕ) (s : Way) → p < l.patches → (l.use_at p s (l.many p s - 1)).arc < l.arcs
-  last_low p s low = laid.paved.arc_low (slot p s (l.many p s - 1))
-      (record { patch_low = low; low = omega (arith, laid.paved.sides_full p s low) })
+  last_low p s low = laid.paved.arc_low (slot p s (l.many p s - 1)) (search rules)
 
   -- At the end of a side the parameter is its old length.
   pub ahead_end : (p : ℕ) (s : Way) → p < l.patches → parameter l old new spacing p s (size l new p s)
@@ -42,20 +36,18 @@ module _ (l : Gluing) (old new : Lengths) (spacing : ArcSpacing) (laid : IsSurfa
       let used = l.use_at p s (l.many p s - 1) in
       let rest : size l new p s - reach l new p s (l.many p s - 1) ≡ new used.arc =
       omega (arith, last_reach l new laid.paved n_len p s low) in
-      rw (over_end p s low, rest)
-      (omega (arith, spaced.ends used.arc used.forward (last_low p s low), last_reach l old laid.paved o_len p s low))
+      search (rules, run_last, last_reach, last_low, last_reach)
 
   -- Counted from the end of the side it is 0 there,
   pub back_end : (p : ℕ) (s : Way) → p < l.patches → parameter_back l old new spacing p s (size l new p s) ≡ 0
-  back_end p s low = search (rules, over_end, last_low)
+  back_end p s low = search (rules, run_last, last_reach, last_low)
 
   -- and the old length at its beginning.
   pub back_begin : (p : ℕ) (s : Way) → p < l.patches → parameter_back l old new spacing p s 0 ≡ ONE * size l old p s
   back_begin p s low =
-      let first = first_slot l new laid.paved n_len p s low in
+      let first = first_slot l _ laid.paved n_len p s low in
       let used = l.use_at p s 0 in
-      let over : use_over l new p s 0 ≡ 0 =
-      run_place _ _ 0 0 first.low (use_some l new laid.paved n_len (slot p s 0) first) in
+      let over : use_over l new p s 0 ≡ 0 = run_place _ _ 0 0 first.low (use_some l _ laid.paved n_len _ first) in
       let upto : reach l old p s 1 ≤ size l old p s = count_rises _ 1 _ (omega arith) in
       let same : new used.arc - (0 - reach l new p s 0) ≡ new used.arc = omega arith in
       rw (over, same) (omega (arith, spaced.ends used.arc (not used.forward) (laid.paved.arc_low (slot p s 0) first)))
@@ -65,8 +57,7 @@ module _ (l : Gluing) (old new : Lengths) (spacing : ArcSpacing) (laid : IsSurfa
       → parameter l old new spacing p s t < ONE * size l old p s
   ahead_less p s t low less =
       let on : IsOn l new p s t (use_over l new p s t) (offset_at l new p s t) = place_on l new p s t low less in
-      let upto : reach l old p s (suc (use_over l new p s t)) ≤ size l old p s =
-      count_rises (long_at l old p s) (suc (use_over l new p s t)) (l.many p s) (omega (arith, on.is_slot.low)) in
+      let upto : reach l old p s (suc (use_over l new p s t)) ≤ size l old p s = search (rules, count_rises) in
       let used : SideArc = l.use_at p s (use_over l new p s t) in
       let part : spacing.parameter_of used.arc used.forward (offset_at l new p s t) < ONE * old used.arc =
       spaced.below used.arc used.forward (offset_at l new p s t)
@@ -83,8 +74,7 @@ module _ (l : Gluing) (old new : Lengths) (spacing : ArcSpacing) (laid : IsSurfa
       let a : ℕ = (l.use_at p s m).arc in
       let turned = not (l.use_at p s m).forward in
       let a_low = laid.paved.arc_low (slot p s m) on.is_slot in
-      let next : reach l old p s (m + 1) ≡ reach l old p s m + old a =
-      (let e : m + 1 ≡ suc m = omega arith in ap (reach l old p s) e) in
+      let next : reach l old p s (m + 1) ≡ reach l old p s m + old a = search rules in
       let upto : reach l old p s (m + 1) ≤ size l old p s = count_rises _ _ _ (omega (arith, on.is_slot.low)) in
       elim (cases_eq o 0) [
         | inl e ↦
@@ -94,15 +84,11 @@ module _ (l : Gluing) (old new : Lengths) (spacing : ArcSpacing) (laid : IsSurfa
             let later = later_arc m o e on in
             let first : 0 < reach l old p s 1 = omega (
               arith,
-              use_some l old laid.paved o_len (slot p s 0)
-                  (first_slot l old laid.paved o_len p s low),
+              use_some l old laid.paved o_len (slot p s 0) (first_slot l old laid.paved o_len p s low),
             ) in
             let before : reach l old p s 1 ≤ reach l old p s m = count_rises _ 1 m (omega arith) in
             omega (arith, next, upto, whole, before, first)
-        | inr ne ↦
-            let part : spacing.parameter_of a turned (new a - o) < ONE * old a =
-            spaced.below a turned _ a_low (omega (arith, on.inside)) in
-            omega (arith, next, upto, part)
+        | inr ne ↦ search rules
       ]
     where
       later_arc : (k q : ℕ) → q ≡ 0 → IsOn l new p s t k q → 0 < k
@@ -132,34 +118,23 @@ module _ (l : Gluing) (old new : Lengths) (spacing : ArcSpacing) (laid : IsSurfa
   -- Those of a grid point inside a patch are below the old size of the patch.
   pub u_less : (p i j : ℕ) → IsPoint l new (inside p i j) → parameter_u l old new spacing p i j < ONE * wide l old p
   u_less p i j is = mean_less _ _ _ _ j (omega arith) (omega arith) (ahead_less p south i is.0 is.2)
-      (omega (
-        arith,
-        o_len.across p is.0,
-        back_less p north (wide l new p - i) is.0 (omega (arith, is.2))
-            (omega (arith, is.1, is.2, n_len.across p is.0)),
-      ))
+      (search (rules, back_less))
 
   pub v_less : (p i j : ℕ) → IsPoint l new (inside p i j) → parameter_v l old new spacing p i j < ONE * high l old p
-  v_less p i j is = mean_less _ _ _ _ i (omega arith) (omega arith)
-      (back_less p west _ is.0 (omega arith) (omega arith))
-      (omega (arith, o_len.upright p is.0, ahead_less p east j is.0 (omega (arith, n_len.upright p is.0))))
+  v_less p i j is = mean_less _ _ _ _ i (omega arith) (omega arith) (back_less p west _ is.0 (omega arith)
+      (omega arith)) (search (rules, ahead_less))
 
   -- Those of any grid point are at most that.
   pub u_upto : (p i j : ℕ) → p < l.patches → i ≤ wide l new p → j ≤ high l new p
       → parameter_u l old new spacing p i j ≤ ONE * wide l old p
   u_upto p i j low i_le j_le =
-      let less : parameter_u l old new spacing p i j < ONE * wide l old p + 1 = mean_less _ _ _ _ j (high_some l new
-      laid.paved n_len p low) j_le (omega (arith, ahead_most p south i low i_le)) (omega (
-        arith,
-        o_len.across p low,
-        back_most p north (wide l new p - i) low (omega (arith, n_len.across p low)),
-      )) in
+      let less : parameter_u l old new spacing p i j < ONE * wide l old p + 1
+      = search (rules, mean_less, ahead_most, back_most) in
       omega arith
 
   pub v_upto : (p i j : ℕ) → p < l.patches → i ≤ wide l new p → j ≤ high l new p
       → parameter_v l old new spacing p i j ≤ ONE * high l old p
   v_upto p i j low i_le j_le =
-      let less : parameter_v l old new spacing p i j < ONE * high l old p + 1 = mean_less _ _ _ _ i (wide_some l new
-      laid.paved n_len p low) i_le (omega (arith, back_most p west (high l new p - j) low (omega arith)))
-      (omega (arith, o_len.upright p low, ahead_most p east j low (omega (arith, n_len.upright p low)))) in
+      let less : parameter_v l old new spacing p i j < ONE * high l old p + 1
+      = search (rules, mean_less, back_most, ahead_most) in
       omega arith

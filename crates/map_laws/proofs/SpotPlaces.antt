@@ -1,5 +1,5 @@
 -- New vertices lie in the old mesh, and have the places that are computed from there.
-use Rattle.std.proofs.Common.{subst, ◌≡◌, ℕ, ◌<◌, List, Option, refl, sym, arith}
+use Rattle.std.proofs.Common.{rules, subst, ◌≡◌, ℕ, ◌<◌, List, Option, refl, sym, arith}
 use Rattle.def_cut.specs.Grids.{cell_of, patch_at}
 use Rattle.def_layout.specs.{Lengths.Lengths, Lengths.wide, Lengths.high, Lengths.AreLengths, Arcs.long_at}
 use Rattle.def_layout.specs.{Gluings.Gluing, Layouts.Layout, Layouts.gluing_of}
@@ -57,11 +57,7 @@ module _ (layout : Layout) (is : IsSomeLayout layout) (shares : Option (List ℕ
       (cell_of (patch_at layout.patches patch) (cell_at w u) (cell_at h v)) =
       corners layout is patch (cell_at w u) (cell_at h v) inner.0 (omega (arith, wide_pos)) (omega (arith, high_pos)) in
       record {
-        within = (
-          e.low,
-          rest_less w u wide_pos (u_less l old new spacing laid old_len len spaced patch i j inner),
-          rest_less h v high_pos (v_less l old new spacing laid old_len len spaced patch i j inner),
-        );
+        within = search (rules, rest_less, u_less, v_less);
         place = λ places t. on_axes (λ axis. blend (rest_at w u) (rest_at h v)
             (coordinate_at places (sym e.south_west t) axis) (coordinate_at places (sym e.south_east t) axis)
             (coordinate_at places (sym e.north_west t) axis) (coordinate_at places (sym e.north_east t) axis));

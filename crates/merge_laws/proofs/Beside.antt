@@ -1,32 +1,29 @@
 -- A full cut has at most one merged cut: each step is told by the cut before it.
-use Rattle.std.proofs.Common.{◌≡◌, ℕ, zero, suc, ◌<◌, Bool, true, false, List, length, sym, ◌∙◌, ap, subst, inl, inr}
-use Rattle.std.proofs.Common.{arith, not, eqb, ◌&&◌, ◌||◌, refl, map, replicate}
-use Rattle.std.proofs.lemmas.Bool.{cases_eq, cases_order, cases_Bool, or_left, or_right, or_cases, and_from, and_parts}
-use Rattle.std.proofs.lemmas.Bool.{eq-eqb, eqb-true, false≢true, false_from_ne_true}
+use Rattle.std.proofs.Common.{◌≡◌, ℕ, zero, suc, ◌<◌, Bool, true, false, List, length, sym, ◌∙◌, ap, inl, inr}
+use Rattle.std.proofs.Common.{rules, arith, not, ◌&&◌, ◌||◌, refl, map, replicate}
+use Rattle.std.proofs.lemmas.Bool.{cases_eq, and_from, and_parts, false≢true}
 use Rattle.std.proofs.{lemmas.List.ext_get_or, lemmas.List.length-map, lemmas.List.length-replicate}
 use Rattle.std.proofs.{lemmas.List.FromFn.length-range_with_len, lemmas.List.FromFn.get_or-map-range_with_len}
-use Rattle.{std.specs.List.list_all, std.specs.List.range_with_len, motion_laws.proofs.Marks.none_on}
+use Rattle.{std.specs.List.list_all, motion_laws.proofs.Marks.none_on}
 use Rattle.def_mesh.specs.{Faces.Faces, Darts.darts, Darts.all_darts, Darts.from_of, Darts.prev_of, HalfEdges.HalfEdges}
-use Rattle.def_mesh.specs.{HalfEdges.IsQuadManifold, HalfEdges.half_edges, Manifold.IsManifold, Vertices.fan_of}
+use Rattle.def_mesh.specs.{HalfEdges.IsQuadManifold, HalfEdges.half_edges, Manifold.IsManifold}
 use Rattle.def_mesh.specs.{Vertices.all_vertices, Vertices.vertex_count}
-use Rattle.def_cut.specs.{Cuts.IsCut, FullCut.is_on, FullCut.IsFullCut, Motion.is_among, Steps.easts}
+use Rattle.def_cut.specs.{Cuts.IsCut, FullCut.is_on, FullCut.IsFullCut, Motion.is_among}
 use Rattle.mesh_laws.proofs.Chains.{manifold_law, prev_of_low}
-use Rattle.merge_laws.proofs.{Joins.on_or_not, Joins.other_way, Joins.less, Joins.join_law, Decided.AreOneArc}
-use Rattle.merge_laws.proofs.{Decided.one_arc}
+use Rattle.merge_laws.proofs.{Joins.on_or_not, Joins.less, Joins.join_law, Decided.AreOneArc, Decided.one_arc}
 use Rattle.def_merge.specs.Merged.{IsStep, Steps, IsMerged, IsMergedBy, MayLeave, all_may, IsMergedCut}
 use Rattle.def_merge.specs.Beside.{is_on_arc, without, may_beside, MergedBesideLaw, HeldLaw}
 use Rattle.def_merge.specs.{Joins.IsOnArc, Laws.OneMergedLaw}
 use Rattle.def_feature.specs.{Beside.is_turn, Beside.IsCutBeside, Beside.is_kept, Beside.keeps_lines, Marks.is_break}
 use Rattle.motion_laws.proofs.Among.{any_at, any_where, all_at, not_all, among_range, range_among}
 use Rattle.feature_laws.proofs.{Breaks.in_fan, Breaks.from_fan, First.no_break, First.off}
-use Rattle.{face_laws.proofs.FullCuts.full_cut_law, sum_laws.proofs.Tests.same_test}
+use Rattle.face_laws.proofs.FullCuts.{full_cut_law}
 
 -- An arc has the same darts from both sides.
 pub same_darts : (mesh : HalfEdges) (s t : ℕ) {n : ℕ} (r u : ℕ) {m : ℕ} (d : ℕ) → AreOneArc s t r u → n ≡ m
     → IsOnArc mesh s t n d → IsOnArc mesh r u m d
 same_darts mesh s t r u {m} d (inl p) e o = rw (← p.0) (rw (← p.1) (rw e at o))
-same_darts mesh s t r u {m} d (inr p) e o =
-    other_way mesh u r m d (rw p.0 at (subst (λ (x : ℕ). IsOnArc mesh s x m d) p.1 (rw e at o)))
+same_darts mesh s t r u {m} d (inr p) e o = search rules
 
 -- A cut of these faces, as steps keep it.
 pub record IsCutOf (faces : Faces) (marks : List Bool) : Type 0 where
@@ -60,8 +57,7 @@ module _ (faces : Faces) (may : MayLeave) (laws : IsQuadManifold (half_edges fac
       ext_get_or false a b (one.long ∙ sym two.long) (λ d h.
       let l : d < darts faces = omega (arith, h, one.long, cut.long) in
       elim (on_or_not mesh one.near one.far one.size d) [
-        | inl o ↦ one.without.gone d o ∙ sym (two.without.gone d
-            (same_darts mesh one.near one.far two.near two.far d arcs.0 arcs.1 o))
+        | inl o ↦ one.without.gone d o ∙ sym (two.without.gone d (search (rules, same_darts)))
         | inr none ↦ one.without.kept d l none ∙ sym (two.without.kept d l
             (λ o. none (same_darts mesh two.near two.far one.near one.far d back (sym arcs.1) o)))
       ])
@@ -105,23 +101,13 @@ module _ (faces : Faces) (may : MayLeave) (laws : IsQuadManifold (half_edges fac
       let here = rw (same_reached n.0 a i cut n.2 one) at n.3 in
       merged here.near here.far here.size here.first.joinable here.first.free
 
-  pub one_merged : (marks rest other : List Bool) → IsCutOf faces marks → IsMergedBy faces may marks rest
-      → IsMergedBy faces may marks other → rest ≡ other
-  one_merged marks rest other cut one two = elim (cases_order one.steps two.steps) [
-    | inl e ↦ same_reached rest other one.steps cut one.reached (rw e two.reached)
-    | inr o ↦ elim o [
-      | inl l ↦ absurd (no_more marks rest other one.steps two.steps cut one.reached one.merged two.reached l)
-      | inr l ↦ absurd (no_more marks other rest two.steps one.steps cut two.reached two.merged one.reached l)
-    ]
-  ]
-
 pub one_merged_law : OneMergedLaw
 one_merged_law faces may marks rest other manifold full one two =
     let laws = manifold_law faces manifold in
     let cut : IsCutOf faces marks =
     record { long = full.long; full = ((full_cut_law faces marks manifold).0 full).1 } in
     let after = cut_reached faces may laws rest one.steps cut one.reached in (
-      one_merged faces may laws marks rest other cut one two,
+      (search (rules, same_reached, no_more)),
       (full_cut_law faces rest manifold).1 (after.long, after.full),
     )
 
@@ -129,18 +115,10 @@ one_merged_law faces may marks rest other manifold full one two =
 
 -- The test of an arc's darts is what it says.
 pub on_arc : (mesh : HalfEdges) (s t n d : ℕ) → IsOnArc mesh s t n d → is_on_arc mesh s t n d ≡ true
-on_arc mesh s t n d (k, l, is) = any_at (λ j. eqb d (easts mesh s j) || eqb d (easts mesh t j)) k (range_with_len 0 n)
-    (among_range 0 n k (omega arith) (omega arith))
-    (elim is [ inl e ↦ or_left _ _ (eq-eqb _ _ e) | inr e ↦ or_right (eqb d (easts mesh s k)) _ (eq-eqb _ _ e) ])
+on_arc mesh s t n d (k, l, is) = any_at _ k _ (among_range 0 n k (omega arith) (omega arith)) (search rules)
 
 pub of_arc : (mesh : HalfEdges) (s t n d : ℕ) → is_on_arc mesh s t n d ≡ true → IsOnArc mesh s t n d
-of_arc mesh s t n d y =
-    let f = any_where (λ j. eqb d (easts mesh s j) || eqb d (easts mesh t j)) (range_with_len 0 n) y in (
-      f.0,
-      omega (arith, (range_among 0 n f.0 f.1).1),
-      elim (or_cases (eqb d (easts mesh s f.0)) _ f.2)
-          [ inl e ↦ inl (eqb-true _ _ e) | inr e ↦ inr (eqb-true _ _ e) ],
-    )
+of_arc mesh s t n d y = search (rules, any_where, range_among)
 
 implied : (a b : Bool) → (a ≡ true → b ≡ true) → (not a || b) ≡ true
 implied = elim [ true ↦ λ b f. f refl | false ↦ λ b f. refl ]
@@ -149,10 +127,7 @@ implies : (a b : Bool) → (not a || b) ≡ true → a ≡ true → b ≡ true
 implies = elim [ true ↦ λ b e is. e | false ↦ λ b e is. absurd (false≢true is) ]
 
 all_from : (p : ℕ → Bool) (ds : List ℕ) → ((d : ℕ) → is_among d ds ≡ true → p d ≡ true) → list_all p ds ≡ true
-all_from p ds each = elim (cases_Bool (list_all p ds)) [
-  | inl y ↦ y
-  | inr off ↦ let r = not_all p ds off in absurd (false≢true (sym r.2 ∙ each r.0 r.1))
-]
+all_from p ds each = search (rules, not_all)
 
 -- The test of a cut is what it says.
 pub keeps_from : (faces : Faces) (marks cut : List Bool)
@@ -161,27 +136,18 @@ pub keeps_from : (faces : Faces) (marks cut : List Bool)
     → is_turn faces cut (from_of faces d) ≡ true) → keeps_lines faces marks cut ≡ true
 keeps_from faces marks cut kept turned = all_from (is_kept faces marks cut) (all_darts faces) (λ d m.
     let l : d < darts faces = omega (arith, (range_among 0 (darts faces) d m).1) in
-    and_from _ _ (implied (is_on marks d) (is_on cut d) (kept d l))
-    (implied (is_break faces marks (from_of faces d)) (is_turn faces cut (from_of faces d)) (turned d l)))
+    search (rules, implied))
 
 module _ (faces : Faces) (marks cut : List Bool) (keeps : keeps_lines faces marks cut ≡ true) where
   at_dart : (d : ℕ) → d < darts faces → is_kept faces marks cut d ≡ true
-  at_dart d l = all_at (is_kept faces marks cut) d (all_darts faces) keeps
-      (among_range 0 (darts faces) d (omega arith) (omega arith))
+  at_dart d l = all_at _ d (all_darts faces) keeps (among_range 0 (darts faces) d (omega arith) (omega arith))
 
   pub kept_from : (d : ℕ) → d < darts faces → is_on marks d ≡ true → is_on cut d ≡ true
-  kept_from d l on = implies (is_on marks d) (is_on cut d)
-      (and_parts (not (is_on marks d) || is_on cut d) _ (at_dart d l)).0 on
+  kept_from d l on = implies _ _ (and_parts (not (is_on marks d) || is_on cut d) _ (at_dart d l)).0 on
 
   pub turned_from : (d : ℕ) → d < darts faces → is_break faces marks (from_of faces d) ≡ true
       → is_turn faces cut (from_of faces d) ≡ true
-  turned_from d l y = implies (is_break faces marks (from_of faces d)) (is_turn faces cut (from_of faces d))
-      (and_parts (not (is_on marks d) || is_on cut d) _ (at_dart d l)).1 y
-
-pub without_is : (faces : Faces) (cut : List Bool) (s t n d : ℕ) → d < darts faces
-    → is_on (without faces cut s t n) d ≡ (is_on cut d && not (is_on_arc (half_edges faces) s t n d))
-without_is faces cut s t n d l = get_or-map-range_with_len
-    (λ x. is_on cut x && not (is_on_arc (half_edges faces) s t n x)) 0 (darts faces) d d false l (omega arith)
+  turned_from d l y = implies _ _ (and_parts (not (is_on marks d) || is_on cut d) _ (at_dart d l)).1 y
 
 pub without_long : (faces : Faces) (cut : List Bool) (s t n : ℕ) → length (without faces cut s t n) ≡ darts faces
 without_long faces cut s t n = length-map (all_darts faces)
@@ -191,16 +157,7 @@ without_long faces cut s t n = length-map (all_darts faces)
 pub left_at : (faces : Faces) (cut : List Bool) (s t n d : ℕ) → d < darts faces
     → (IsOnArc (half_edges faces) s t n d → is_on (without faces cut s t n) d ≡ false)
     × ((IsOnArc (half_edges faces) s t n d → ⊥) → is_on (without faces cut s t n) d ≡ is_on cut d)
-left_at faces cut s t n d l =
-    let mesh = half_edges faces in
-    let off_test : (a b : Bool) → b ≡ true → (a && not b) ≡ false =
-    elim [ true ↦ λ b y. ap not y | false ↦ λ b y. refl ] in
-    let on_test : (a b : Bool) → b ≡ false → (a && not b) ≡ a =
-    elim [ true ↦ λ b y. ap not y | false ↦ λ b y. refl ] in (
-      λ o. without_is faces cut s t n d l ∙ off_test (is_on cut d) _ (on_arc mesh s t n d o),
-      λ none. without_is faces cut s t n d l
-          ∙ on_test (is_on cut d) _ (false_from_ne_true _ (λ y. none (of_arc mesh s t n d y))),
-    )
+left_at faces cut s t n d l = search (rules, get_or-map-range_with_len, on_arc, of_arc)
 
 -- The cut of a step is the one that is left.
 pub step_is : {faces : Faces} (marks : List Bool) {cut rest : List Bool} → length cut ≡ darts faces
@@ -229,18 +186,16 @@ beside_reached faces marks cut rest steps manifold beside reached =
     let laws = manifold_law faces manifold in
     let is : IsCutOf faces cut =
     record { long = beside.full.long; full = ((full_cut_law faces cut manifold).0 beside.full).1 } in
-    let after = cut_reached faces (may_beside faces marks) laws rest steps is reached in
-    let keeps = keeps_reached faces laws marks cut rest steps is (keeps_from faces marks cut beside.kept beside.turned)
-    reached in
+    let after = cut_reached _ _ laws _ _ is reached in
+    let keeps = keeps_reached _ laws _ _ _ _ is (keeps_from _ _ _ beside.kept beside.turned) reached in
     record {
       full = (full_cut_law faces rest manifold).1 (after.long, after.full);
-      kept = kept_from faces marks rest keeps;
-      turned = turned_from faces marks rest keeps;
+      kept = kept_from _ marks rest keeps;
+      turned = turned_from _ marks rest keeps;
     }
 
 pub merged_beside_law : MergedBesideLaw
-merged_beside_law faces marks cut rest manifold beside merged =
-    beside_reached faces marks cut rest merged.steps manifold beside merged.reached
+merged_beside_law faces marks cut rest manifold beside merged = search (rules, beside_reached)
 
 -- An arc that may not leave a cut beside marked lines may not leave a part of it, nor from its other side.
 
@@ -250,29 +205,21 @@ Turn faces cut v = (e : ℕ) × (e < darts faces) × (from_of faces e ≡ v) × 
     × (is_on cut (prev_of e) ≡ true)
 
 pub turn_there : (faces : Faces) (cut : List Bool) (v : ℕ) → is_turn faces cut v ≡ true → Turn faces cut v
-turn_there faces cut v y =
-    let found = any_where (λ d. is_on cut d && is_on cut (prev_of d)) (fan_of faces v) y in
-    let f = from_fan faces v found.0 found.1 in
-    let p = and_parts (is_on cut found.0) (is_on cut (prev_of found.0)) found.2 in
-    (found.0, f.0, f.1, p.0, p.1)
+turn_there faces cut v y = search (rules, any_where, from_fan)
 
 pub turn_from : (faces : Faces) (cut : List Bool) (v : ℕ) → Turn faces cut v → is_turn faces cut v ≡ true
-turn_from faces cut v (d, l, at, on, before) = any_at (λ x. is_on cut x && is_on cut (prev_of x)) d (fan_of faces v)
-    (in_fan faces v d l at) (and_from _ _ on before)
+turn_from faces cut v (d, l, at, on, before) = any_at _ d _ (in_fan _ v d l at) (and_from _ _ on before)
 
 -- An arc that may not leave may not leave a part of the cut.
 pub held_law : HeldLaw
 held_law faces marks cut rest s t n more free = keeps_from faces marks (without faces cut s t n)
-    (λ d l on. grows d l (kept_from faces marks (without faces rest s t n) free d l on))
-    (λ d l y. turn_from faces (without faces cut s t n) (from_of faces d)
+    (search (rules, grows, kept_from)) (λ d l y. turn_from faces (without faces cut s t n) (from_of faces d)
     (turn_grows (from_of faces d) (turn_there faces (without faces rest s t n) (from_of faces d)
-    (turned_from faces marks (without faces rest s t n) free d l y))))
+    (search (rules, turned_from)))))
   where
     grows : (d : ℕ) → d < darts faces → is_on (without faces rest s t n) d ≡ true
         → is_on (without faces cut s t n) d ≡ true
-    grows d l on =
-        let p = and_parts _ _ (sym (without_is faces rest s t n d l) ∙ on) in
-        without_is faces cut s t n d l ∙ and_from _ _ (more d p.0) p.1
+    grows d l on = search (rules, get_or-map-range_with_len)
 
     turn_grows : (v : ℕ) → Turn faces (without faces rest s t n) v → Turn faces (without faces cut s t n) v
     turn_grows v (e, l, at, on, before) = (e, l, at, grows e l on, grows (prev_of e) (prev_of_low faces e l) before)
@@ -280,64 +227,23 @@ held_law faces marks cut rest s t n more free = keeps_from faces marks (without 
 -- From its other side an arc may leave as well.
 pub turned_may : (faces : Faces) (marks cut : List Bool) (s t n : ℕ) → may_beside faces marks cut s t n ≡ true
     → may_beside faces marks cut t s n ≡ true
-turned_may faces marks cut s t n y =
-    let mesh = half_edges faces in
-    let over : (s t d : ℕ) → is_on_arc (half_edges faces) s t n d ≡ true → is_on_arc (half_edges faces) t s n d ≡ true =
-    λ s t d o. on_arc mesh t s n d (other_way mesh s t n d (of_arc mesh s t n d o)) in
-    let same = ext_get_or false (without faces cut s t n) (without faces cut t s n)
-    (without_long faces cut s t n ∙ sym (without_long faces cut t s n)) (λ d h.
-    let l : d < darts faces = omega (arith, h, without_long faces cut s t n) in
-    without_is faces cut s t n d l ∙ (ap (λ b. is_on cut d && not b) (same_test _ _ (over s t d) (over t s d))
-    ∙ sym (without_is faces cut t s n d l))) in
-    ap (keeps_lines faces marks) (sym same) ∙ y
+turned_may faces marks cut s t n y = search (rules, of_arc)
 
 -- Beside no marked edge all joinable arcs may leave.
 
 -- Where the same arcs may leave the same cuts are merged.
 module _ (faces : Faces) (may other : MayLeave)
     (same : (cut : List Bool) (s t n : ℕ) → may cut s t n ≡ other cut s t n) where
-  step_alike : {cut rest : List Bool} → IsStep faces may cut rest → IsStep faces other cut rest
-  step_alike {cut} step = record {
-    near = step.near;
-    far = step.far;
-    size = step.size;
-    first = record {
-      joinable = step.first.joinable;
-      free = sym (same cut step.near step.far step.size) ∙ step.first.free;
-      name = step.first.name;
-      named = step.first.named;
-      first = λ r u m d arc free on. step.first.first r u m d arc (same cut r u m ∙ free) on;
-    };
-    long = step.long;
-    without = step.without;
-  }
-
-  steps_alike : (cut rest : List Bool) (n : ℕ) → Steps faces may cut rest n → Steps faces other cut rest n
-  steps_alike cut rest zero is = is
-  steps_alike cut rest (suc n) (between, before, step) = (between, steps_alike cut between n before, step_alike step)
-
   pub merged_alike : (cut rest : List Bool) → IsMergedBy faces may cut rest → IsMergedBy faces other cut rest
-  merged_alike cut rest is = record {
-    steps = is.steps;
-    reached = steps_alike cut rest is.steps is.reached;
-    merged = λ s t n arc free. is.merged s t n arc (same rest s t n ∙ free);
-  }
+  merged_alike cut rest is = search rules
 
 module _ (faces : Faces) where
   abbrev no_marks : List Bool
   no_marks = replicate (darts faces) false
 
-  pub none_held : (cut : List Bool) (s t n : ℕ) → may_beside faces (replicate (darts faces) false) cut s t n ≡ true
-  none_held cut s t n = keeps_from faces no_marks (without faces cut s t n) (λ d l on. absurd
-      (false≢true (sym (off faces d) ∙ on))) (λ d l y. absurd (false≢true (sym (no_break faces (from_of faces d)) ∙ y)))
-
   -- A full cut keeps no marks.
   pub none_beside : (cut : List Bool) → IsFullCut faces cut → IsCutBeside faces (replicate (darts faces) false) cut
-  none_beside cut full = record {
-    full = full;
-    kept = λ d l on. absurd (false≢true (sym (off faces d) ∙ on));
-    turned = λ d l y. absurd (false≢true (sym (no_break faces (from_of faces d)) ∙ y));
-  }
+  none_beside cut full = search (rules, off, no_break)
 
   pub none_broken : replicate (vertex_count faces) false
       ≡ map (is_break faces (replicate (darts faces) false)) (all_vertices faces)
@@ -351,8 +257,9 @@ module _ (faces : Faces) where
   -- What is merged beside no marks is merged, and the other way round.
   pub none_merged : (cut rest : List Bool)
       → IsMergedBy faces (may_beside faces (replicate (darts faces) false)) cut rest → IsMergedCut faces cut rest
-  none_merged = merged_alike faces (may_beside faces no_marks) all_may none_held
+  none_merged = merged_alike faces (may_beside faces no_marks) all_may (search (rules, keeps_from, off, no_break))
 
   pub merged_none : (cut rest : List Bool) → IsMergedCut faces cut rest
       → IsMergedBy faces (may_beside faces (replicate (darts faces) false)) cut rest
-  merged_none = merged_alike faces all_may (may_beside faces no_marks) (λ cut s t n. sym (none_held cut s t n))
+  merged_none = merged_alike faces all_may (may_beside faces no_marks)
+      (λ cut s t n. sym (search (rules, keeps_from, off, no_break)))

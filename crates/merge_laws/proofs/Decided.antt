@@ -1,7 +1,7 @@
 -- Joinable arcs: those with a dart in common are one, each has a name, and those that come up are told by where they
 -- run.
 use Rattle.std.proofs.Common.{◌≡◌, ◌⊎◌, ℕ, zero, suc, ◌-◌, ◌<◌, ◌≤◌, true, sym, ◌∙◌, ap, refl, inl, inr, true≢false}
-use Rattle.std.proofs.Common.{arith, ◌+◌, Option, Some, None}
+use Rattle.std.proofs.Common.{rules, arith, ◌+◌, Option, Some, None}
 use Rattle.std.proofs.{lemmas.Bool.cases_eq, lemmas.Bool.cases_lt, lemmas.Bool.cases_Bool, lemmas.Option.same_Some}
 use Rattle.def_cut.specs.{Cuts.Cut, Cuts.IsCut, Cuts.IsCorner, Steps.easts, Steps.spin}
 use Rattle.cut_laws.proofs.{Rows.first_or_none, Rows.grow, Classes.closed, Classes.first_in, Classes.linked_in}
@@ -21,8 +21,7 @@ least_to : (f : ℕ → ℕ) (n : ℕ) → (k : ℕ) × (k ≤ n) × ((j : ℕ) 
 least_to f zero = (0, omega arith, λ j h. let e : j ≡ 0 = omega arith in rw e (omega arith))
 least_to f (suc n) =
     let r = least_to f n in
-    let with_last : (k : ℕ) → f k ≤ f r.0 → f k ≤ f (suc n) → (j : ℕ) → j ≤ suc n → f k ≤ f j = λ k a b j h. elim
-    (cases_eq j (suc n)) [ inl e ↦ rw e b | inr ne ↦ let c = r.2 j (omega arith) in omega (arith, a, c) ] in
+    let with_last : (k : ℕ) → f k ≤ f r.0 → f k ≤ f (suc n) → (j : ℕ) → j ≤ suc n → f k ≤ f j = search rules in
     elim (cases_lt (f (suc n)) (f r.0)) [
       | inl l ↦ (suc n, omega arith, with_last (suc n) (omega arith) (omega arith))
       | inr g ↦ (r.0, omega (arith, r.1), with_last r.0 (omega arith) (omega arith))
@@ -33,20 +32,9 @@ pub name_there : (mesh : HalfEdges) (s t n : ℕ) → 0 < n → (name : ℕ) × 
 name_there mesh s t n some =
     let a = least_to (easts mesh s) (n - 1) in
     let b = least_to (easts mesh t) (n - 1) in
-    let least : (name : ℕ) → name ≤ easts mesh s a.0 → name ≤ easts mesh t b.0 → (d : ℕ) → IsOnArc mesh s t n d
-    → name ≤ d = λ name p q d o. elim o.2 [
-      | inl e ↦ omega (arith, e, p, a.2 o.0 (omega (arith, o.1)))
-      | inr e ↦ omega (arith, e, q, b.2 o.0 (omega (arith, o.1)))
-    ] in
     elim (cases_lt (easts mesh s a.0) (easts mesh t b.0)) [
-      | inl l ↦ (
-        easts mesh s a.0,
-        record { on = (a.0, omega (arith, a.1), inl refl); least = least _ (omega arith) (omega arith) },
-      )
-      | inr g ↦ (
-        easts mesh t b.0,
-        record { on = (b.0, omega (arith, b.1), inr refl); least = least _ (omega arith) (omega arith) },
-      )
+      | inl l ↦ (easts mesh s a.0, search rules)
+      | inr g ↦ (easts mesh t b.0, search rules)
     ]
 
 pub one_name : (mesh : HalfEdges) (s t n a b : ℕ) → IsNameOf mesh s t n a → IsNameOf mesh s t n b → a ≡ b
@@ -91,27 +79,23 @@ module _ {mesh : HalfEdges} (laws : IsQuadManifold mesh) {cut : Cut} (full : IsC
     over_end : (d : ℕ) → d < mesh.count → rest d ≡ true → IsOnArc mesh s t n (mesh.next d) → (d ≡ mesh.prev s)
         ⊎ (d ≡ mesh.prev t)
     over_end d l on o =
-        let was : cut (mesh.prev (mesh.next d)) ≡ true =
-        ap cut (laws.prev_next d) ∙ less laws without d l on in
+        let was : cut (mesh.prev (mesh.next d)) ≡ true = ap cut (laws.prev_next d) ∙ less laws without d l on in
         let start : (c k : ℕ) → IsWholeSide mesh cut c n → k < n → mesh.next d ≡ easts mesh c k → d ≡ mesh.prev c =
         λ c k side lk e.
         let first = first_place laws full side k lk (ap (λ x. cut (mesh.prev x)) (sym e) ∙ was) in
         sym (laws.prev_next d) ∙ ap mesh.prev (e ∙ ap (easts mesh c) first) in
-        elim o.2 [
-          | inl e ↦ inl (start s o.0 arc.glued.near o.1 e)
-          | inr e ↦ inr (start t o.0 arc.glued.far o.1 e)
-        ]
+        elim o.2 [ inl e ↦ inl (start s o.0 arc.glued.near o.1 e) | inr e ↦ inr (start t o.0 arc.glued.far o.1 e) ]
 
     -- A whole side was one before, or it goes on over an end of the arc.
     side_before_or_over : {r m : ℕ} → IsWholeSide mesh rest r m → IsWholeSide mesh cut r m
         ⊎ ((k : ℕ) × (k < m) × ((mesh.prev s ≡ easts mesh r k) ⊎ (mesh.prev t ≡ easts mesh r k)))
     unfolding full_rest
     side_before_or_over {r} {m} side = elim (first_or_none (λ k. cut (mesh.next (easts mesh r k))) (m - 1)) [
-      | inl f ↦ elim (on_or_not mesh s t n (mesh.next (easts mesh r f.0))) [
+      | inl f ↦ elim (on_or_not mesh s t n _) [
         | inl o ↦ inr (
           f.0,
           omega arith,
-          elim (over_end (easts mesh r f.0) (low f.0 (omega arith)) (side_on laws full_rest side f.0
+          elim (over_end _ (low f.0 (omega arith)) (side_on laws full_rest side _
               (omega arith)) o) [ inl e ↦ inl (sym e) | inr e ↦ inr (sym e) ],
         )
         | inr none ↦ absurd (true≢false (sym f.2.on ∙ (sym (without.kept (mesh.next (easts mesh r f.0))
@@ -122,11 +106,10 @@ module _ {mesh : HalfEdges} (laws : IsQuadManifold mesh) {cut : Cut} (full : IsC
         corner = (
           side.corner.0,
           less laws without r side.corner.0 side.corner.1,
-          less laws without (mesh.prev r) (laws.prev_low r side.corner.0) side.corner.2,
+          less laws without _ (laws.prev_low r side.corner.0) side.corner.2,
         );
         inside = λ k l. none k (omega arith);
-        ends = λ k e. less laws without (mesh.next (easts mesh r k))
-            (laws.next_low (easts mesh r k) (low k (omega arith))) (side.ends k e);
+        ends = λ k e. less laws without _ (laws.next_low (easts mesh r k) (low k (omega arith))) (side.ends k e);
       })
     ]
       where
@@ -160,11 +143,6 @@ found_or_not (Some x) t = elim (cases_eq x t) [ inl e ↦ inl (ap Some e) | inr 
 abbrev OrNot : Type 0 → Type 0
 OrNot P = P ⊎ (P → ⊥)
 
-either : {P Q : Type 0} → OrNot P → OrNot Q → OrNot (P ⊎ Q)
-either (inl p) q = inl (inl p)
-either (inr none) (inl q) = inl (inr q)
-either (inr none) (inr never) = inr (λ o. elim o [ inl p ↦ none p | inr q ↦ never q ])
-
 module _ {mesh : HalfEdges} (laws : IsQuadManifold mesh) {cut : Cut} (full : IsCut mesh cut) (may : Leave) where
   -- The arcs that join two patches over the whole side from s.
   abbrev From : (s n : ℕ) → Type 0
@@ -178,12 +156,9 @@ module _ {mesh : HalfEdges} (laws : IsQuadManifold mesh) {cut : Cut} (full : IsC
   in_one_or_not : (s n t : ℕ) → IsWholeSide mesh cut s n → IsCorner mesh cut t → OrNot (AreInOne mesh cut s t)
   in_one_or_not s n t side corner =
       let (h, grid) = grid_on laws full side in
-      let cell = grown mesh s in
       let linked : (k a b : ℕ) → a < n → b < h → t ≡ spin mesh k (grown mesh s a b) → AreInOne mesh cut s t =
       λ k a b la lb is. linked_in laws full grid t (k, record { a = a; b = b; a_low = la; b_low = lb; is = is }) in
-      let first : OrNot (IsFirstDart mesh n h (grown mesh s) t) = either (cases_eq t (cell 0 0)) (either
-      (cases_eq t (mesh.next (cell (n - 1) 0))) (either (cases_eq t (mesh.next (mesh.next (cell (n - 1) (h - 1)))))
-      (cases_eq t (mesh.next (mesh.next (mesh.next (cell 0 (h - 1)))))))) in
+      let first : OrNot (IsFirstDart mesh n h (grown mesh s) t) = search rules in
       elim first [
         | inl f ↦ inl (elim f [
           | inl e ↦ linked 0 0 0 grid.wide grid.tall e
@@ -206,15 +181,7 @@ module _ {mesh : HalfEdges} (laws : IsQuadManifold mesh) {cut : Cut} (full : IsC
       let rest = across_or_not s t n m (omega arith) in
       elim (found_or_not (mesh.twin (easts mesh s m)) (easts mesh t (n - suc m))) [
         | inr never ↦ inr (λ all. never (all m (n - suc m) (omega arith)))
-        | inl on ↦ elim rest [
-          | inr never ↦ inr never
-          | inl before ↦ inl (λ k j l e. elim (cases_eq k m) [
-            | inl same ↦
-                let other : n - suc m ≡ j = omega arith in
-                ap (λ x. mesh.twin (easts mesh s x)) same ∙ (on ∙ ap (λ x. Some (easts mesh t x)) other)
-            | inr apart ↦ before k j (omega arith) e
-          ])
-        ]
+        | inl on ↦ search rules
       ]
 
   -- Whether an arc that joins two patches begins at s.
@@ -228,8 +195,7 @@ module _ {mesh : HalfEdges} (laws : IsQuadManifold mesh) {cut : Cut} (full : IsC
       by_far : (t : ℕ) → mesh.twin (easts mesh s (n - 1)) ≡ Some t → IsCorner mesh cut t → OrNot (From s n)
       by_far t is there =
           let g = grow laws full t there in
-          let far : IsWholeSide mesh cut t g.0 =
-          record { some = g.2.wide; corner = there; inside = g.2.row.inside; ends = g.2.row.ends } in
+          let far : IsWholeSide mesh cut t g.0 = search rules in
           let at_t : From s n → IsJoinable mesh cut s t n = λ f. rw (← same_Some f.0 t (sym (far_is f) ∙ is)) f.1 in
           elim (cases_eq g.0 n) [
             | inr never ↦ inr (λ f. never (one_size laws full far (at_t f).glued.far))
@@ -237,13 +203,7 @@ module _ {mesh : HalfEdges} (laws : IsQuadManifold mesh) {cut : Cut} (full : IsC
               | inr never ↦ inr (λ f. never (at_t f).glued.across)
               | inl across ↦ elim (in_one_or_not s n t side there) [
                 | inl one ↦ inr (λ f. (at_t f).apart one)
-                | inr apart ↦ inl (
-                  t,
-                  record {
-                    glued = record { near = side; far = rw e at far; across = λ k j sum. across k j (omega arith) sum };
-                    apart = apart;
-                  },
-                )
+                | inr apart ↦ search rules
               ]
             ]
           ]
@@ -254,11 +214,7 @@ module _ {mesh : HalfEdges} (laws : IsQuadManifold mesh) {cut : Cut} (full : IsC
           let x = easts mesh s (n - 1) in
           let low = side_low laws full side (n - 1) (omega arith) in
           elim (cases_Bool (cut (mesh.prev t))) [
-            | inl on ↦ by_far t is (
-              laws.twin_low x t low is,
-              full.alike x t low is ∙ side_on laws full side (n - 1) (omega arith),
-              on,
-            )
+            | inl on ↦ by_far t is (laws.twin_low x t low is, search (rules, side_on), on)
             | inr off ↦ inr (λ f.
                 let same = same_Some f.0 t (sym (far_is f) ∙ is) in
                 true≢false (sym (rw same at f.1.glued.far.corner).2 ∙ off))
@@ -275,24 +231,14 @@ module _ {mesh : HalfEdges} (laws : IsQuadManifold mesh) {cut : Cut} (full : IsC
       by_side c n k stand = elim (begins_at n stand.side) [
         | inr never ↦ inr (λ o. let r = from_c o in never (r.0, r.1))
         | inl f ↦ elim (cases_Bool (may c f.0 n)) [
-          | inl free ↦ inl (c, f.0, n, f.1, free, (k, stand.low, inl (sym stand.at)))
+          | inl free ↦ search rules
           | inr held ↦ elim (cases_Bool (may f.0 c n)) [
-            | inl free ↦ inl (
-              f.0,
-              c,
-              n,
-              turned_arc laws full f.1,
-              free,
-              (k, stand.low, inr (sym stand.at)),
-            )
+            | inl free ↦ inl (f.0, c, n, turned_arc laws full f.1, free, (k, stand.low, inr (sym stand.at)))
             | inr back ↦ inr (λ o.
                 let r = from_c o in
                 let far : r.0 ≡ f.0 = same_Some r.0 f.0 (sym (r.1.glued.across (n - 1) 0 (omega (arith, stand.low)))
                 ∙ f.1.glued.across (n - 1) 0 (omega (arith, stand.low))) in
-                elim r.2 [
-                  | inl free ↦ true≢false (sym (rw far at free) ∙ held)
-                  | inr free ↦ true≢false (sym (rw far at free) ∙ back)
-                ])
+                search rules)
           ]
         ]
       ]
@@ -304,13 +250,11 @@ module _ {mesh : HalfEdges} (laws : IsQuadManifold mesh) {cut : Cut} (full : IsC
 
           -- What goes over d begins at c, from one side or the other.
           from_c : Over d → (u : ℕ) × IsJoinable mesh cut c u n × ((may c u n ≡ true) ⊎ (may u c n ≡ true))
-          from_c (s, t, m, arc, free, (j, l, inl e)) =
-              let same = begins arc j l e in
-              (t, rw same.1 at (rw same.0 at arc), inl (rw same.1 at (rw same.0 at free)))
+          from_c (s, t, m, arc, free, (j, l, inl e)) = let same = begins arc j l e in search rules
           from_c (s, t, m, arc, free, (j, l, inr e)) =
               let turned = turned_arc laws full arc in
               let same = begins turned j l e in
-              (s, rw same.1 at (rw same.0 at turned), inr (rw same.1 at (rw same.0 at free)))
+              search rules
 
   -- The first one.
   abbrev Least : ℕ → Type 0

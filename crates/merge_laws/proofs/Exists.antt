@@ -1,6 +1,6 @@
 -- Each full cut has a merged cut: each step leaves fewer darts.
 use Rattle.std.proofs.Common.{◌≡◌, ◌⊎◌, ℕ, zero, suc, ◌<◌, ◌≤◌, Bool, true, cond, List, sym, ◌∙◌, ap, refl, inl, inr}
-use Rattle.std.proofs.Common.{arith}
+use Rattle.std.proofs.Common.{rules, arith}
 use Rattle.{std.proofs.lemmas.Bool.cases_lt, def_math.specs.Counts.count_below, sum_laws.proofs.Sums.count_below_lt}
 use Rattle.{def_cut.specs.FullCut.is_on, mesh_laws.proofs.Chains.manifold_law, face_laws.proofs.FullCuts.full_cut_law}
 use Rattle.def_mesh.specs.{Faces.Faces, Darts.darts, HalfEdges.HalfEdges, HalfEdges.IsQuadManifold}
@@ -8,7 +8,7 @@ use Rattle.def_mesh.specs.{HalfEdges.half_edges}
 use Rattle.def_merge.specs.{Joins.IsJoinable, Joins.IsOnArc, Laws.MergedLaw, Merged.IsMergedBy, Merged.IsStep}
 use Rattle.def_merge.specs.{Merged.Steps, Merged.MayLeave, Beside.without}
 use Rattle.merge_laws.proofs.{Beside.left_at, Beside.without_long, Beside.IsCutOf, Beside.cut_after, Joins.on_cut}
-use Rattle.merge_laws.proofs.{Joins.on_low, Joins.on_or_not, Decided.Over, Decided.least_or_none}
+use Rattle.merge_laws.proofs.{Joins.on_low, Decided.Over, Decided.least_or_none}
 
 module _ (faces : Faces) (may : MayLeave) (laws : IsQuadManifold (half_edges faces)) where
   abbrev mesh : HalfEdges
@@ -50,23 +50,19 @@ module _ (faces : Faces) (may : MayLeave) (laws : IsQuadManifold (half_edges fac
               named = record { on = on; least = λ x o. least s t n x arc free o };
               first = least;
             };
-            long = without_long faces marks s t n ∙ sym cut.long;
+            long = without_long _ _ s t n ∙ sym cut.long;
             without = record {
-              gone = λ x o. (left_at faces marks s t n x (on_low laws cut.full arc.glued x o)).0 o;
-              kept = λ x l. (left_at faces marks s t n x l).1;
+              gone = λ x o. (left_at _ _ s t n x (on_low laws cut.full arc.glued x o)).0 o;
+              kept = λ x l. (left_at _ _ s t n x l).1;
             };
           }
 
           fewer : marked (without faces marks s t n) < marked marks
           fewer =
               let was = on_cut laws cut.full arc.glued d on in
-              let zero_now = ap (λ (b : Bool). cond {A = ℕ} b 1 0) ((left_at faces marks s t n d low).0 on) in
+              let zero_now = ap (λ (b : Bool). cond {A = ℕ} b 1 0) ((left_at _ marks s t n d low).0 on) in
               let one_before = ap (λ (b : Bool). cond {A = ℕ} b 1 0) was in
-              count_below_lt (λ x. cond (is_on (without faces marks s t n) x) 1 0) (λ x. cond (is_on marks x) 1 0)
-              (darts faces) d low (λ x l. elim (on_or_not mesh s t n x) [
-                | inl o ↦ rw ((left_at faces marks s t n x l).0 o) (omega arith)
-                | inr none ↦ rw ((left_at faces marks s t n x l).1 none) (omega arith)
-              ]) (omega arith)
+              count_below_lt _ _ _ d low (search (rules, left_at)) (omega arith)
 
   -- A step in front of others.
   in_front : {marks between : List Bool} (rest : List Bool) (n : ℕ) → IsStep faces may marks between

@@ -1,6 +1,6 @@
 -- Without a joinable arc there is one patch less.
 use Rattle.std.proofs.Common.{◌≡◌, ◌≢◌, ◌⊎◌, ℕ, zero, suc, ◌+◌, ◌-◌, ◌<◌, ◌≤◌, ◌==◌, Bool, true, false, not, List}
-use Rattle.std.proofs.Common.{length, sym, ◌∙◌, ap, refl, inl, inr, true≢false, arith}
+use Rattle.std.proofs.Common.{rules, length, sym, ◌∙◌, ap, refl, inl, inr, arith}
 use Rattle.std.proofs.{lemmas.Bool.cases_eq, lemmas.Bool.eq-eqb, lemmas.Bool.ne_eqb, lemmas.Option.same_Some}
 use Rattle.sum_laws.proofs.Sums.{count_below_one, count_below_ones, count_below_same, count_below_sum}
 use Rattle.written_laws.proofs.Spacings.{one_if, passing, passing_all, passing_le}
@@ -40,9 +40,7 @@ module _ {mesh : HalfEdges} (laws : IsQuadManifold mesh) {cut rest : Cut} (full 
   joined_less x y l a = (a.0, links_less laws without x y a.0 l a.1)
 
   along : {c : ℕ} → IsWholeSide mesh cut c n → (k : ℕ) → k < n → AreInOne mesh cut c (easts mesh c k)
-  along {c} side k l =
-      let g = grid_on laws full side in
-      linked_in laws full g.1 (easts mesh c k) (0, record { a = k; b = 0; a_low = l; b_low = g.1.tall; is = refl })
+  along {c} side k l = let g = grid_on laws full side in linked_in laws full g.1 (easts mesh c k) (0, search rules)
 
   beside_on : (x : ℕ) → IsOnArc mesh s t n x → Beside x
   beside_on x (k, l, inl e) = inl (rw e (along arc.glued.near k l))
@@ -54,11 +52,9 @@ module _ {mesh : HalfEdges} (laws : IsQuadManifold mesh) {cut rest : Cut} (full 
       let last : n - 1 < n = omega arith in
       let across = arc.glued.across 0 (n - 1) (omega arith) in
       let gone = without.gone s (0, arc.glued.near.some, inl refl) in
-      let back =
-      linked_back laws full t (easts mesh t (n - 1)) arc.glued.far.corner.0 (along arc.glued.far (n - 1) last) in
-      links_join laws rest s (easts mesh t (n - 1)) t
-      (step_over laws rest s s (easts mesh t (n - 1)) (0, refl) gone across) (joined_less (easts mesh t (n - 1)) t
-      (on_low laws full arc.glued (easts mesh t (n - 1)) (n - 1, last, inr refl)) back)
+      let back = linked_back laws full t _ arc.glued.far.corner.0 (along arc.glued.far _ last) in
+      links_join laws _ s _ t (step_over laws _ s s _ (0, refl) gone across)
+      (joined_less _ t (on_low laws full arc.glued _ (n - 1, last, inr refl)) back)
 
   -- What is linked then was linked, or lies beside the arc.
   linked_or : (x y m : ℕ) → x < mesh.count → Links mesh rest x y m → AreInOne mesh cut x y ⊎ (Beside x × Beside y)
@@ -86,9 +82,7 @@ module _ {mesh : HalfEdges} (laws : IsQuadManifold mesh) {cut : Cut} (full : IsC
     {ps : List Rectangle} (parts : IsPartition mesh cut face ps) where
   -- The patch of a dart.
   in_patch : (x : ℕ) → x < mesh.count → (p : ℕ) × (p < length ps) × IsIn mesh ps p x
-  in_patch x l =
-      let (p, i, j, k, low, side) = parts.covers x l in
-      (p, low, (k, record { a = i; b = j; a_low = side.i_low; b_low = side.j_low; is = side.is }))
+  in_patch x l = let (p, i, j, k, low, side) = parts.covers x l in search rules
 
   pub grid_of : (p : ℕ) → p < length ps → IsGrid mesh cut (patch_at ps p).w (patch_at ps p).h (cell_of (patch_at ps p))
   grid_of p l = (parts.patch p l).grid
@@ -107,8 +101,7 @@ module _ {mesh : HalfEdges} (laws : IsQuadManifold mesh) {cut : Cut} (full : IsC
   one_patch : (p x y : ℕ) → p < length ps → IsIn mesh ps p x → IsIn mesh ps p y → AreInOne mesh cut x y
   one_patch p x y l i j =
       let linked = linked_in laws full (grid_of p l) in
-      links_join laws cut x (first_dart p) y
-      (linked_back laws full (first_dart p) x (first_low p l) (linked x i)) (linked y j)
+      links_join laws cut x (first_dart p) y (search (rules, linked_back, first_low)) (linked y j)
 
 module _ {mesh : HalfEdges} (laws : IsQuadManifold mesh) {cut rest : Cut} (full : IsCut mesh cut)
     (after : IsCut mesh rest) {face : ℕ → ℕ} {s t n : ℕ} (arc : IsJoinable mesh cut s t n)
@@ -154,16 +147,14 @@ module _ {mesh : HalfEdges} (laws : IsQuadManifold mesh) {cut rest : Cut} (full 
   old_of q l =
       let p = in_patch laws full parts (new q) (first_low laws after whole q l) in
       let linked : (u y : ℕ) → u < length ps → IsIn mesh ps u y → AreInOne mesh rest (old u) y = λ u y lu j. joined_less
-      laws full arc without (old u) y (first_low laws full parts u lu)
-      (one_patch laws full parts u (old u) y lu (first_in laws full parts u lu) j) in
+      laws full arc without (old u) y (first_low laws full parts u lu) (search (rules, one_patch, first_in)) in
       elim (cases_eq p.0 far.0) [
         | inl e ↦ (
           near.0,
           near.1,
           λ same. arc.apart (one_patch laws full parts near.0 s t near.1 near.2 (rw same far.2)),
-          links_join laws rest (old near.0) s (new q) (linked near.0 s near.1 near.2)
-              (links_join laws rest s t (new q) (both laws full arc without)
-              (joined_less laws full arc without t (new q) arc.glued.far.corner.0
+          links_join laws rest (old near.0) s (new q) (linked near.0 s near.1 near.2) (links_join laws rest s t (new q)
+              (both laws full arc without) (joined_less laws full arc without t (new q) arc.glued.far.corner.0
               (one_patch laws full parts far.0 t (new q) far.1 far.2 (rw e at p.2)))),
         )
         | inr ne ↦ (p.0, p.1, ne, linked p.0 (new q) p.1 p.2)
@@ -179,16 +170,12 @@ module _ {mesh : HalfEdges} (laws : IsQuadManifold mesh) {cut rest : Cut} (full 
   -- So there is one less.
   fewer : length ps ≡ suc (length qs)
   fewer =
-      let is_other : (p : ℕ) → not (p == far.0) ≡ true → p
-      ≢ far.0 = λ p on same. true≢false (sym on ∙ ap not (eq-eqb p far.0 same)) in
-      let down : passing (λ p. not (p == far.0)) (length ps) ≤ passing (λ q. true) (length qs) = passing_le
-      (λ p. not (p == far.0)) (λ q. true) (length ps) (length qs) (λ p l on. ((new_of p l).0, (new_of p l).1, refl))
-      (λ p r lp on lr also same. new_once p r lp lr (is_other p on) (is_other r also) same) in
-      let up : passing (λ q. true) (length qs) ≤ passing (λ p. not (p == far.0)) (length ps) = passing_le (λ q. true)
-      (λ p. not (p == far.0)) (length qs) (length ps)
-      (λ q l on. let p = old_of q l in (p.0, p.1, ap not (ne_eqb p.0 far.0 p.2)))
+      let down : passing (λ p. not (p == far.0)) (length ps) ≤ passing (λ q. true) (length qs) = passing_le _
+      (λ q. true) _ _ (λ p l on. ((new_of p l).0, (new_of p l).1, refl)) (search (rules, new_once)) in
+      let up : passing (λ q. true) (length qs) ≤ passing (λ p. not (p == far.0)) (length ps) = passing_le (λ q. true) _
+      _ _ (λ q l on. let p = old_of q l in (p.0, p.1, ap not (ne_eqb p.0 far.0 p.2)))
       (λ q r lq on lr also same. old_once q r lq lr same) in
-      omega (arith, one_less far.0 (length ps) far.1, passing_all (length qs))
+      omega (arith, one_less _ _ far.1, passing_all (length qs))
 
 pub fewer_law : FewerLaw
 fewer_law mesh cut rest face s t n ps qs laws full arc without parts whole =

@@ -1,6 +1,6 @@
 -- The darts of arcs, and what is left of a cut without one.
-use Rattle.std.proofs.Common.{◌≡◌, ◌⊎◌, ℕ, zero, suc, ◌-◌, ◌<◌, true, false, Some, sym, ◌∙◌, ap, refl, inl, inr}
-use Rattle.std.proofs.Common.{true≢false, arith, None, List, length}
+use Rattle.std.proofs.Common.{rules, ◌≡◌, ◌⊎◌, ℕ, zero, suc, ◌-◌, ◌<◌, true, false, Some, sym, ◌∙◌, ap, refl, inl, inr}
+use Rattle.std.proofs.Common.{true≢false, arith, List, length}
 use Rattle.std.proofs.{lemmas.Bool.cases_Bool, lemmas.Bool.cases_eq, lemmas.Option.same_Some}
 use Rattle.def_mesh.specs.HalfEdges.{HalfEdges, IsQuadManifold}
 use Rattle.def_cut.specs.Cuts.{Cut, IsCross, HasCross, Links, IsCut, IsUncut, IsCorner, GoesOn}
@@ -17,10 +17,7 @@ use Rattle.{motion_laws.proofs.Bits.rotated, cut_laws.specs.Grown.grown}
 pub on_or_not : (mesh : HalfEdges) (s t n d : ℕ) → IsOnArc mesh s t n d ⊎ (IsOnArc mesh s t n d → ⊥)
 on_or_not mesh s t n d = elim (sent_or_not (easts mesh s) d n) [
   | inl a ↦ inl (a.0, a.1, inl (sym a.2))
-  | inr a ↦ elim (sent_or_not (easts mesh t) d n) [
-    | inl b ↦ inl (b.0, b.1, inr (sym b.2))
-    | inr b ↦ inr (λ o. elim o.2 [ inl e ↦ a o.0 o.1 (sym e) | inr e ↦ b o.0 o.1 (sym e) ])
-  ]
+  | inr a ↦ elim (sent_or_not (easts mesh t) d n) [ inl b ↦ inl (b.0, b.1, inr (sym b.2)) | inr b ↦ search rules ]
 ]
 
 pub other_way : (mesh : HalfEdges) (s t n d : ℕ) → IsOnArc mesh s t n d → IsOnArc mesh t s n d
@@ -28,10 +25,7 @@ other_way mesh s t n d o = (o.0, o.1, elim o.2 [ inl e ↦ inr e | inr e ↦ inl
 
 pub other_without : {mesh : HalfEdges} {cut rest : Cut} {s t n : ℕ} → IsWithout mesh cut rest s t n
     → IsWithout mesh cut rest t s n
-other_without {mesh} {s} {t} {n} without = record {
-  gone = λ d o. without.gone d (other_way mesh t s n d o);
-  kept = λ d l none. without.kept d l (λ o. none (other_way mesh s t n d o));
-}
+other_without {mesh} {s} {t} {n} without = search rules
 
 -- Four faces go round a vertex, from wherever they are counted.
 pub cross_from : {mesh : HalfEdges} → IsQuadManifold mesh → (x d : ℕ) → x < mesh.count → d < mesh.count
@@ -61,10 +55,7 @@ module _ {mesh : HalfEdges} (laws : IsQuadManifold mesh) {cut : Cut} (full : IsC
   }
 
   pub turned_arc : {s t n : ℕ} → IsJoinable mesh cut s t n → IsJoinable mesh cut t s n
-  turned_arc {s} {t} arc = record {
-    glued = turned_glued arc.glued;
-    apart = λ a. arc.apart (linked_back laws full t s arc.glued.far.corner.0 a);
-  }
+  turned_arc {s} {t} arc = record { glued = turned_glued arc.glued; apart = search (rules, linked_back) }
 
   pub on_low : {s t n : ℕ} → AreGlued mesh cut s t n → (d : ℕ) → IsOnArc mesh s t n d → d < mesh.count
   on_low g d (k, l, inl e) = rw e (side_low laws full g.near k l)
@@ -97,35 +88,24 @@ module _ {mesh : HalfEdges} (laws : IsQuadManifold mesh) {cut : Cut} (full : IsC
       by_turn : (q : ℕ) → 0 < q → q < 4 → cell a b ≡ spin mesh q (cell a b) → ⊥
       by_turn (suc zero) some low e = (laws.corners_differ (cell a b) lc).0 (ap mesh.from e)
       by_turn (suc (suc zero)) some low e = (laws.corners_differ (cell a b) lc).1 (ap mesh.from e)
-      by_turn (suc (suc (suc zero))) some low e =
-          (laws.corners_differ (cell a b) lc).0 (cc (e, laws.four_sides (cell a b)))
+      by_turn (suc (suc (suc zero))) some low e = search rules
       by_turn _ some low e = omega arith
 
 -- What is left of the cut without an arc.
 module _ {mesh : HalfEdges} (laws : IsQuadManifold mesh) {cut rest : Cut} {s t n : ℕ}
     (without : IsWithout mesh cut rest s t n) where
   pub less : (d : ℕ) → d < mesh.count → rest d ≡ true → cut d ≡ true
-  less d l on = elim (on_or_not mesh s t n d) [
-    | inl o ↦ absurd (true≢false (sym on ∙ without.gone d o))
-    | inr none ↦ sym (without.kept d l none) ∙ on
-  ]
+  less d l on = search rules
 
   pub still : (d : ℕ) → d < mesh.count → (IsOnArc mesh s t n d → ⊥) → cut d ≡ true → rest d ≡ true
   still d l none on = without.kept d l none ∙ on
 
   pub opened : (d : ℕ) → d < mesh.count → cut d ≡ false → rest d ≡ false
-  opened d l off = elim (on_or_not mesh s t n d) [
-    | inl o ↦ without.gone d o
-    | inr none ↦ without.kept d l none ∙ off
-  ]
+  opened d l off = search rules
 
   pub links_less : (d e m : ℕ) → d < mesh.count → Links mesh cut d e m → Links mesh rest d e m
   links_less d e zero l a = a
-  links_less d e (suc m) l a = (
-    a.0,
-    links_less d a.0 m l a.1,
-    elim a.2 [ inl r ↦ inl r | inr o ↦ inr (opened a.0 (links_low laws cut d a.0 m l a.1) o.0, o.1) ],
-  )
+  links_less d e (suc m) l a = search (rules, links_low, links_less d a.0 m l a.1)
 
 -- Without a joinable arc a full cut is a full cut.
 
@@ -148,10 +128,8 @@ module _ {mesh : HalfEdges} (laws : IsQuadManifold mesh) {cut : Cut} (full : IsC
 
   -- No other side of a cell on the near side lies on the arc.
   clear : (q a b : ℕ) → 0 < q → q < 4 → a < n → b < grid.0 → IsOnArc mesh s t n (spin mesh q (grown mesh s a b)) → ⊥
-  clear q a b some low la lb (k, l, inl e) =
-      never_south laws full grid.1 q k a b some low l la lb (sym e)
-  clear q a b some low la lb (k, l, inr e) =
-      foreign (spin mesh q (grown mesh s a b)) (q, record { a = a; b = b; a_low = la; b_low = lb; is = refl })
+  clear q a b some low la lb (k, l, inl e) = never_south laws full grid.1 q k a b some low l la lb (sym e)
+  clear q a b some low la lb (k, l, inr e) = foreign _ (q, record { a = a; b = b; a_low = la; b_low = lb; is = refl })
       (0, record { a = k; b = 0; a_low = l; b_low = other.1.tall; is = e })
 
   -- Inside the arc four faces go round a vertex.
@@ -171,8 +149,7 @@ module _ {mesh : HalfEdges} (laws : IsQuadManifold mesh) {cut : Cut} (full : IsC
           third = laws.twin_twin (mesh.next b) (mesh.prev (easts mesh t (suc i))) (laws.next_low b lb)
               (side_link laws full arc.glued.far i (omega arith));
           last = ap mesh.twin (laws.prev_next b) ∙ (turned_glued laws full arc.glued).across i (suc k) (omega arith);
-          apart = λ same. foreign (easts mesh s (suc k))
-              (0, record { a = suc k; b = 0; a_low = l; b_low = grid.1.tall; is = refl })
+          apart = λ same. foreign _ (0, record { a = suc k; b = 0; a_low = l; b_low = grid.1.tall; is = refl })
               (0, record { a = suc i; b = 0; a_low = omega arith; b_low = other.1.tall; is = same });
         },
       )
@@ -200,14 +177,12 @@ module _ {mesh : HalfEdges} (laws : IsQuadManifold mesh) {cut : Cut} (full : IsC
     gap_over d ld on k l e rest_end =
         let start = first_place laws full arc.glued.near k l
         (ap (λ x. cut (mesh.prev x)) (sym e) ∙ (ap cut (laws.prev_next d) ∙ on)) in
-        let is : mesh.next d ≡ s = e ∙ ap (easts mesh s) start in
-        inr (easts mesh t (n - 1), ap mesh.twin is ∙ arc.glued.across 0 (n - 1) (omega arith), rest_end)
+        search rules
 
     -- Where it came straight on to the arc, it came along the arc.
     gap_on : (d e : ℕ) → d < mesh.count → cut (mesh.next d) ≡ false → mesh.twin (mesh.next d) ≡ Some e → (k : ℕ)
         → k < n → mesh.next e ≡ easts mesh s k → rest d ≡ false
-    gap_on d e ld off tw zero l is =
-        absurd (cc (arc.glued.near.corner.2, laws.prev_next e, full.alike (mesh.next d) e (laws.next_low d ld) tw))
+    gap_on d e ld off tw zero l is = search rules
     gap_on d e ld off tw (suc k) l is =
         let x = easts mesh s k in
         let link = side_link laws full arc.glued.near k l in
@@ -261,8 +236,7 @@ module _ {mesh : HalfEdges} (laws : IsQuadManifold mesh) {cut : Cut} (full : IsC
   seen : {P : Type 0} {d : ℕ} → ((s t : ℕ) → IsJoinable mesh cut s t n → IsWithout mesh cut rest s t n → (k : ℕ) → k < n
       → d ≡ easts mesh s k → P) → IsOnArc mesh s t n d → P
   seen from (k, l, inl e) = from s t arc without k l e
-  seen from (k, l, inr e) =
-      from t s (turned_arc laws full arc) (other_without without) k l e
+  seen from (k, l, inr e) = from t s (turned_arc laws full arc) (other_without without) k l e
 
   keeps : (d : ℕ) → d < mesh.count → (IsOnArc mesh s t n d → ⊥) → cut d ≡ true → rest d ≡ true
   keeps = still laws without
@@ -280,8 +254,7 @@ module _ {mesh : HalfEdges} (laws : IsQuadManifold mesh) {cut : Cut} (full : IsC
         | inr off ↦ elim (full.gaps d l was) [
           | inl c ↦ absurd (true≢false (sym c ∙ off))
           | inr f ↦ elim (on_or_not mesh s t n (mesh.next f.0)) [
-            | inl o ↦ absurd (true≢false (sym on
-                ∙ seen (λ s t arc without. gap_on laws full arc without d f.0 l off f.1) o))
+            | inl o ↦ absurd (true≢false (sym on ∙ seen (search (rules, gap_on)) o))
             | inr none ↦
                 let low = laws.next_low f.0 (laws.twin_low next f.0 (laws.next_low d l) f.1) in
                 inr (f.0, f.1, keeps (mesh.next f.0) low none f.2)
@@ -333,8 +306,7 @@ module _ {mesh : HalfEdges} (laws : IsQuadManifold mesh) {cut : Cut} (full : IsC
         ];
         boundary = λ d l is. keeps d l (λ o.
             let p = on_twin laws full arc.glued d o in
-            let clash : None ≡ Some p.0 = sym is ∙ p.1 in
-            absurd cc) (full.boundary d l is);
+            search rules) (full.boundary d l is);
         gaps = gaps;
         crossed = crossed;
         corner = corner;
@@ -361,6 +333,5 @@ module _ {mesh : HalfEdges} (laws : IsQuadManifold mesh) {cut : Cut} (full : IsC
   pub one_place_of : (p q x y : ℕ) → p < length ps → q < length ps → IsIn mesh ps p x → IsIn mesh ps q y
       → AreLinked mesh cut x y → p ≡ q
   one_place_of p q x y lp lq i j a =
-      let here = closed laws full (grid_at p lp)
-      x y a.0 a.1 i in
+      let here = closed laws full (grid_at p lp) x y _ a.1 i in
       (parts.once y p here.1.a here.1.b here.0 q j.1.a j.1.b j.0 lp lq (side_of p y here) (side_of q y j)).0

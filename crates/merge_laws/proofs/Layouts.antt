@@ -1,13 +1,13 @@
 -- What is joinable in a layout is joinable in its cut.
+use Rattle.std.proofs.Common.{rules}
 use Rattle.std.proofs.Common.{◌≡◌, ℕ, suc, ◌+◌, ◌-◌, ◌<◌, Bool, true, false, not, Some, sym, ◌∙◌, ap, refl, arith}
 use Rattle.def_mesh.specs.HalfEdges.{HalfEdges, IsQuadManifold}
 use Rattle.def_cut.specs.{Cuts.Cut, Cuts.IsCut, Grids.IsGrid, Grids.Rectangle, Grids.cell_of, Grids.patch_at}
 use Rattle.def_cut.specs.{Steps.easts}
 use Rattle.cut_laws.proofs.{Folds.prev_three, Classes.In, Classes.in_low}
 use Rattle.def_layout.specs.Gluings.{Way, south, east, north, west, Gluing, Slot, IsSlot, use_of}
-use Rattle.def_layout.specs.{Arcs.path_at, Arcs.long_at, Arcs.dart_at, Arcs.LiesAt, Borders.side_size}
-use Rattle.def_layout.specs.{Borders.border_dart, Lengths.reach, Layouts.Layout, Layouts.gluing_of}
-use Rattle.def_layout.specs.{Layouts.IsDartLayout}
+use Rattle.def_layout.specs.{Arcs.path_at, Arcs.long_at, Arcs.LiesAt, Borders.side_size, Borders.border_dart}
+use Rattle.def_layout.specs.{Lengths.reach, Layouts.Layout, Layouts.gluing_of, Layouts.IsDartLayout}
 use Rattle.merge_laws.proofs.{Sides.south_side, Sides.east_side, Sides.north_side, Sides.west_side, Sides.along_south}
 use Rattle.merge_laws.proofs.{Sides.along_east, Sides.along_north, Sides.along_west, Joins.one_place_of}
 use Rattle.def_merge.specs.{Joins.IsWholeSide, Joins.AreInOne, Joins.IsJoinable, Layouts.IsJoinableAt, Laws.JoinableLaw}
@@ -22,19 +22,13 @@ pub record IsBorder (mesh : HalfEdges) (cut : Cut) (p : Rectangle) (side : Way) 
 module _ (mesh : HalfEdges) (laws : IsQuadManifold mesh) (cut : Cut) (full : IsCut mesh cut) (p : Rectangle)
     (grid : IsGrid mesh cut p.w p.h (cell_of p)) where
   north_start : mesh.next (mesh.next (cell_of p (p.w - 1) (p.h - 1))) ≡ border_dart mesh p north 0
-  north_start = let same : p.w - 1 ≡ p.w - 1 - 0 = omega arith in
-      ap (λ x. mesh.next (mesh.next (cell_of p x (p.h - 1)))) same
+  north_start = search rules
 
   west_start : mesh.next (mesh.next (mesh.next (cell_of p 0 (p.h - 1)))) ≡ border_dart mesh p west 0
-  west_start = let same : p.h - 1 ≡ p.h - 1 - 0 = omega arith in
-      sym (prev_three laws (cell_of p 0 (p.h - 1))) ∙ ap (λ x. mesh.prev (cell_of p 0 x)) same
+  west_start = search (rules, prev_three)
 
   pub border : (side : Way) → IsBorder mesh cut p side
-  border south = record {
-    whole = south_side laws full grid;
-    along = along_south laws full grid;
-    inside = λ k l. (0, record { a = k; b = 0; a_low = l; b_low = grid.tall; is = refl });
-  }
+  border south = record { whole = south_side laws full grid; along = along_south laws full grid; inside = search rules }
   border east = record {
     whole = east_side laws full grid;
     along = along_east laws full grid;
@@ -42,16 +36,15 @@ module _ (mesh : HalfEdges) (laws : IsQuadManifold mesh) (cut : Cut) (full : IsC
   }
   border north = record {
     whole = rw north_start at (north_side laws full grid);
-    along = λ k l. ap (λ x. easts mesh x k) (sym north_start)
-        ∙ along_north laws full grid k (p.w - 1 - k) (omega arith);
+    along = λ k l. ap (λ x. easts mesh x k) (sym north_start) ∙ along_north laws full grid k _ (omega arith);
     inside = λ k l. (2, record { a = p.w - 1 - k; b = p.h - 1; a_low = omega arith; b_low = omega arith; is = refl });
   }
   border west = record {
     whole = rw west_start at (west_side laws full grid);
     along = λ k l. ap (λ x. easts mesh x k) (sym west_start) ∙ (along_west laws full grid k
-        (p.h - 1 - k) (omega arith) ∙ sym (prev_three laws (cell_of p 0 (p.h - 1 - k))));
+        _ (omega arith) ∙ sym (prev_three laws _));
     inside = λ k l. let at = p.h - 1 - k in
-        let is = prev_three laws (cell_of p 0 at) in
+        let is = prev_three laws _ in
         (3, record { a = 0; b = at; a_low = grid.wide; b_low = omega arith; is = is });
   }
 
@@ -79,23 +72,10 @@ module _ {mesh : HalfEdges} (laws : IsQuadManifold mesh) {cut : Cut} (full : IsC
   -- A slot that is alone on its side: its arc is as long as the side, and begins with it.
   module _ (slot : Slot) (is : IsSlot gluing slot) (alone : gluing.many slot.patch slot.side ≡ 1)
     where
-      at_first : slot.at ≡ 0
-      at_first = omega arith
-
-      long : length_of slot ≡ side_size (patch slot) slot.side
-      long =
-          let none : 0 + length_of slot ≡ length_of slot = omega arith in
-          let one_long : reach gluing (long_at layout.arcs) slot.patch slot.side 1 ≡ length_of slot =
-          ap (λ k. 0 + long_at layout.arcs (gluing.use_at slot.patch slot.side k).arc) (sym at_first) ∙ none in
-          sym one_long ∙ (ap (reach gluing (long_at layout.arcs) slot.patch slot.side) (sym alone)
-          ∙ lay.sizes slot.patch slot.side is.patch_low)
-
       lies : (o : ℕ) → o < length_of slot
           → LiesAt mesh (path_at layout.arcs (arc_of slot)).darts (use_of gluing slot).forward o (dart slot o)
       lies o l =
-          let same : 0 + o ≡ o = omega arith in
-          let none : reach gluing (long_at layout.arcs) slot.patch slot.side slot.at + o ≡ o =
-          ap (λ k. reach gluing (long_at layout.arcs) slot.patch slot.side k + o) at_first ∙ same in
+          let none : reach gluing (long_at layout.arcs) slot.patch slot.side slot.at + o ≡ o = search rules in
           rw none at (lay.used slot o is l)
 
   module _ {one other : Slot} (are : IsJoinableAt gluing one other) where
@@ -106,29 +86,19 @@ module _ {mesh : HalfEdges} (laws : IsQuadManifold mesh) {cut : Cut} (full : IsC
     far = border mesh laws cut full (patch other) (grid_of are.across.0) other.side
 
     near_long : side_size (patch one) one.side ≡ length_of one
-    near_long = sym (long one are.slot are.alone)
+    near_long = sym (search rules)
 
     far_long : side_size (patch other) other.side ≡ length_of one
-    far_long = sym (long other are.across.0 are.alone_across) ∙ ap (long_at layout.arcs) are.across.1.arc
-
-    far_lies : (o : ℕ) → o < length_of one
-        → LiesAt mesh (path_at layout.arcs (arc_of one)).darts (not (use_of gluing one).forward) o (dart other o)
-    far_lies o l = rw (← are.across.1.turned) (rw (← are.across.1.arc)
-        (lies other are.across.0 are.alone_across o (omega (arith, ap (long_at layout.arcs) are.across.1.arc))))
+    far_long = sym (search rules) ∙ ap (long_at layout.arcs) are.across.1.arc
 
     paired : (b : Bool) (k j x y : ℕ) → y < mesh.count → k + suc j ≡ length_of one
         → LiesAt mesh (path_at layout.arcs (arc_of one)).darts b k x
         → LiesAt mesh (path_at layout.arcs (arc_of one)).darts (not b) j y → mesh.twin x ≡ Some y
-    paired true k j x y ly sum a b = let same : length_of one - 1 - j ≡ k =
-        omega arith in ap mesh.twin (a ∙ ap (dart_at layout.arcs (arc_of one)) (sym same)) ∙ b
-    paired false k j x y ly sum a b = let same : length_of one - 1 - k ≡ j = omega arith in
-        laws.twin_twin y x ly (ap mesh.twin (b ∙ ap (dart_at layout.arcs (arc_of one)) (sym same)) ∙ a)
+    paired true k j x y ly sum a b = search rules
+    paired false k j x y ly sum a b = search rules
 
     joined : IsJoinable mesh cut (dart one 0) (dart other 0) (length_of one)
-    joined = record {
-      glued = record { near = rw near_long at near.whole; far = rw far_long at far.whole; across = across };
-      apart = apart;
-    }
+    joined = search (rules, near, near_long, far, far_long, across, apart)
       where
         across : (k j : ℕ) → k + suc j ≡ length_of one → mesh.twin (easts mesh (dart one 0) k)
             ≡ Some (easts mesh (dart other 0) j)
@@ -136,7 +106,7 @@ module _ {mesh : HalfEdges} (laws : IsQuadManifold mesh) {cut : Cut} (full : IsC
             let lj : j < side_size (patch other) other.side = omega (arith, far_long) in
             let low = in_low laws full (grid_of are.across.0) (dart other j) (far.inside j lj) in
             ap mesh.twin (near.along k (omega (arith, near_long))) ∙ (paired (use_of gluing one).forward k j
-            (dart one k) (dart other j) low sum (lies one are.slot are.alone k (omega arith)) (far_lies j (omega arith))
+            (dart one k) (dart other j) low sum (lies one are.slot are.alone k (omega arith)) (search (rules, lies))
             ∙ ap Some (sym (far.along j lj)))
 
         apart : AreInOne mesh cut (dart one 0) (dart other 0) → ⊥

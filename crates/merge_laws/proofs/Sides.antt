@@ -1,6 +1,6 @@
 -- Whole sides of patches: each cut dart lies on one, at one place, and the four of a patch follow each other.
 use Rattle.std.proofs.Common.{◌≡◌, ◌⊎◌, ℕ, zero, suc, ◌+◌, ◌-◌, ◌<◌, true, false, Some, sym, ◌∙◌, ap, refl, inl, inr}
-use Rattle.std.proofs.Common.{true≢false, arith, subst}
+use Rattle.std.proofs.Common.{rules, true≢false, arith, subst}
 use Rattle.def_mesh.specs.HalfEdges.{HalfEdges, IsQuadManifold}
 use Rattle.def_cut.specs.{Cuts.Cut, Cuts.IsCorner, Cuts.IsCut, Grids.Cells, Grids.IsGrid, Steps.spin, Steps.or_zero}
 use Rattle.def_cut.specs.{Steps.step_east, Steps.easts}
@@ -68,20 +68,16 @@ module _ {mesh : HalfEdges} (laws : IsQuadManifold mesh) {cut : Cut} (full : IsC
   pub one_place : {s n r m : ℕ} (k j : ℕ) → IsWholeSide mesh cut s n → IsWholeSide mesh cut r m → k < n → j < m
       → easts mesh s k ≡ easts mesh r j → (s ≡ r) × (k ≡ j)
   one_place zero zero one two lk lj e = (e, refl)
-  one_place zero (suc j) one two lk lj e =
-      absurd (cc (one.corner.2, side_before two j lj))
-  one_place (suc k) zero one two lk lj e =
-      absurd (cc (two.corner.2, side_before one k lk))
+  one_place zero (suc j) one two lk lj e = absurd (cc (one.corner.2, side_before two j lj))
+  one_place (suc k) zero one two lk lj e = absurd (cc (two.corner.2, side_before one k lk))
   one_place {s} {n} {r} {m} (suc k) (suc j) one two lk lj e =
       let lx = laws.next_low _ (side_low one k (omega arith)) in
       let ly = laws.next_low _ (side_low two j (omega arith)) in
-      let same = twin_same laws (mesh.next (easts mesh s k)) (mesh.next (easts mesh r j))
-      (mesh.prev (easts mesh s (suc k))) lx ly (side_link one k lk) (cc (side_link two j lj)) in
-      let p = one_place k j one two (omega arith) (omega arith) (next_same laws _ _ same) in
-      (p.0, ap suc p.1)
+      let same = twin_same laws _ _ _ lx ly (side_link one k lk) (cc (side_link two j lj)) in
+      search (rules, one_place k j one two (omega arith) (omega arith) (next_same laws _ _ same))
 
   shorter : {s : ℕ} (n : ℕ) {m : ℕ} → IsWholeSide mesh cut s n → IsWholeSide mesh cut s m → n < m → ⊥
-  shorter zero one two l = absurd (let some = one.some in omega arith)
+  shorter zero one two l = absurd (omega arith)
   shorter (suc k) one two l = true≢false (sym (one.ends k refl) ∙ two.inside k (omega arith))
 
   pub one_size : {s n m : ℕ} → IsWholeSide mesh cut s n → IsWholeSide mesh cut s m → n ≡ m
@@ -91,12 +87,8 @@ module _ {mesh : HalfEdges} (laws : IsQuadManifold mesh) {cut : Cut} (full : IsC
   pub grid_on : {s n : ℕ} → IsWholeSide mesh cut s n → (h : ℕ) × IsGrid mesh cut n h (grown mesh s)
   grid_on {s} {n} side =
       let g = grow laws full s side.corner in
-      let other : IsWholeSide mesh cut s g.0 =
-      record { some = g.2.wide; corner = side.corner; inside = g.2.row.inside; ends = g.2.row.ends } in
-      let same = one_size other side in (
-        g.1,
-        rw same at (grown_grid laws full s g.0 g.1 side.corner g.2),
-      )
+      let other : IsWholeSide mesh cut s g.0 = search rules in
+      let same = one_size other side in (g.1, rw same at (grown_grid laws full s g.0 g.1 side.corner g.2))
 
   -- The sides of a grid: each is the south side of the grid turned by as many quarters.
   module _ {w h : ℕ} {cell : Cells} (grid : IsGrid mesh cut w h cell) where
@@ -165,9 +157,12 @@ module _ {mesh : HalfEdges} (laws : IsQuadManifold mesh) {cut : Cut} (full : IsC
   stands_at zero grid i (suc j) li lj e on = absurd (cc (south_open laws full grid i j li lj))
   stands_at (suc q) {w} {h} {cell} grid i j li lj e on =
       let same : w - suc (w - suc i) ≡ i = omega arith in
-      let o = stands_at q (quarter_grid laws full grid) j (w - suc i) lj (omega arith)
-      (cc (same, spin_next laws q (cell i j))) on in
-      (o.0, o.1, o.2, o.3, quarter_first grid o.4)
+      search (
+        rules,
+        quarter_first,
+        stands_at q (quarter_grid laws full grid) j (w - suc i) lj (omega arith)
+            (cc (same, spin_next laws q (cell i j))) on,
+      )
 
   module _ {w h : ℕ} {cell : Cells} (grid : IsGrid mesh cut w h cell) where
     pub stands_in : (x : ℕ) → In mesh w h cell x → cut x ≡ true → SideOver mesh cut w h cell x
@@ -177,10 +172,8 @@ module _ {mesh : HalfEdges} (laws : IsQuadManifold mesh) {cut : Cut} (full : IsC
     pub corner_in : (x : ℕ) → In mesh w h cell x → IsCorner mesh cut x → IsFirstDart mesh w h cell x
     corner_in x i corner =
         let o = stands_in x i corner.1 in
-        let start : o.2 ≡ 0 =
-        first_place o.3.side o.2 o.3.low (ap (λ y. cut (mesh.prev y)) o.3.at ∙ corner.2) in
-        let same : o.0 ≡ x = ap (easts mesh o.0) (sym start) ∙ o.3.at in
-        rw same at o.4
+        let start : o.2 ≡ 0 = first_place o.3.side o.2 o.3.low (ap (λ y. cut (mesh.prev y)) o.3.at ∙ corner.2) in
+        search rules
 
   -- Each cut dart stands on a whole side.
   pub stands : (x : ℕ) → x < mesh.count → cut x ≡ true → (c : ℕ) × (n : ℕ) × (k : ℕ) × StandsOn mesh cut c n k x

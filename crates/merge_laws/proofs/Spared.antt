@@ -1,6 +1,6 @@
 -- Whether an arc may leave beside marked lines is told at its darts and its two ends.
 use Rattle.std.proofs.Common.{◌≡◌, ◌⊎◌, ℕ, zero, suc, ◌+◌, ◌-◌, ◌<◌, Bool, true, false, List, Some, sym, ◌∙◌, ap, subst}
-use Rattle.std.proofs.Common.{refl, inl, inr, arith}
+use Rattle.std.proofs.Common.{rules, refl, inl, inr, arith}
 use Rattle.std.proofs.{lemmas.Bool.false≢true, lemmas.Bool.false_from_ne_true, lemmas.Option.same_Some}
 use Rattle.def_mesh.specs.{Faces.Faces, Darts.darts, Darts.from_of, Darts.next_of, Darts.prev_of, Darts.twin_of}
 use Rattle.def_mesh.specs.{HalfEdges.HalfEdges, HalfEdges.IsQuadManifold, HalfEdges.half_edges, Manifold.IsManifold}
@@ -82,8 +82,7 @@ module _ (faces : Faces) (m : IsManifold faces) (marks : List Bool) (marked : Ar
     first_at : (d : ℕ) → OnArc d → IsBreak d → TurnsAt cut d → (d ≡ s) ⊎ (d ≡ t)
     first_at d (zero, l, e) y turn = e
     first_at d (suc k, l, inl e) y turn = absurd (no_turn s t arc.glued k d l e y turn)
-    first_at d (suc k, l, inr e) y turn =
-        absurd (no_turn t s (turned_glued laws full arc.glued) k d l e y turn)
+    first_at d (suc k, l, inr e) y turn = absurd (no_turn t s (turned_glued laws full arc.glued) k d l e y turn)
 
     -- Where the edge opposite to an end stays, a corner stays.
     module _ (r u : ℕ) (corner : IsCorner mesh (is_on cut) r) (on : OnArc r)
@@ -122,12 +121,10 @@ module _ (faces : Faces) (m : IsManifold faces) (marks : List Bool) (marked : Ar
       -- And where a corner stays, the opposite edge does.
       free : OnArc u → (IsBreak r → TurnsAt rest r) → IsEndFree faces marks cut r u
       free on_u turn y a b first second =
-          let (x, z, w, is) = break_cross faces m marks marked r lr y in
-          let same_a : x ≡ a = cc (is.first, first) in
-          let same_b : z ≡ b = cc (is.second, second, same_a) in
+          let (x, z, w, is) = break_cross _ m _ marked r lr y in
+          let same_b : z ≡ b = cc (is.second, second) in
           let (e, le, at, on_e, before) = turn y in
-          let on_b : is_on rest z ≡ true =
-          elim (one_of_four laws r x z w lr is e (record { low = le; at = at })) [
+          let on_b : is_on rest z ≡ true = elim (one_of_four laws r x z w lr is e (record { low = le; at = at })) [
             | inl same ↦ absurd (cc (left.gone r on, on_e))
             | inr (inl same) ↦ cc
                 (full_left.alike (prev_of x) z (laws.prev_low x (low_a laws r x z w lr is)) is.second, before)
@@ -149,7 +146,7 @@ module _ (faces : Faces) (m : IsManifold faces) (marks : List Bool) (marked : Ar
         let before = unmarked_from off k (omega arith) in
         let x = easts mesh s (suc k) in
         let y = easts mesh s k in
-        let lx = near_low (suc k) l in
+        let lx = near_low _ l in
         let ly = near_low k (omega arith) in
         false_from_ne_true _ (λ on.
         let (a, b, c, is) = crossed_at laws full arc k l in
@@ -157,12 +154,11 @@ module _ (faces : Faces) (m : IsManifold faces) (marks : List Bool) (marked : Ar
         (side_link laws full arc.glued.near k l)) in
         let across : twin_of faces (easts mesh s k) ≡ Some b =
         ap (twin_of faces) (sym (ap prev_of right ∙ laws.prev_next y)) ∙ is.second in
-        elim (two_ways faces m marks marked x a b c lx on is) [
+        elim (two_ways _ m _ marked x a b c lx on is) [
           | inl on ↦ false≢true (sym before ∙ (sym (marked.alike y b ly across) ∙ on))
           | inr (inl both) ↦ false≢true (sym (arc.glued.near.inside k l) ∙ (ap (is_on cut) (sym right)
               ∙ beside.kept a (low_a laws x a b c lx is) both.0))
-          | inr (inr broken) ↦ no_turn s t arc.glued k x l refl broken
-              (turn_there faces cut (from_of faces x) (beside.turned x lx broken))
+          | inr (inr broken) ↦ no_turn s t arc.glued k x l refl broken (turn_there _ _ _ (beside.turned x lx broken))
         ])
 
     on_s : OnArc s
@@ -186,15 +182,14 @@ module _ (faces : Faces) (m : IsManifold faces) (marks : List Bool) (marked : Ar
     }
 
     from_spared : IsSpared faces marks cut s t n → keeps_lines faces marks rest ≡ true
-    from_spared spared = keeps_from faces marks rest (λ d l y. still laws left d l
-        (λ o. unmarked d o y) (beside.kept d l y)) (λ d l y. turn_from faces rest (from_of faces d)
-        (turned d y (turn_there faces cut (from_of faces d) (beside.turned d l y))))
+    from_spared spared = keeps_from _ _ _ (λ d l y. still laws left d l (λ o. unmarked d o y) (beside.kept d l y))
+        (λ d l y. turn_from _ _ _ (turned d y (turn_there _ _ _ (beside.turned d l y))))
       where
         -- No dart of the arc is marked.
         unmarked : (d : ℕ) → OnArc d → is_on marks d ≡ true → ⊥
         unmarked d (k, l, inl e) y = false≢true (sym (spared.unmarked k l) ∙ (ap (is_on marks) (sym e) ∙ y))
         unmarked d (k, l, inr e) y = false≢true (sym (marked.alike (easts mesh s (n - suc k)) d
-            (near_low (n - suc k) (omega arith)) (arc.glued.across (n - suc k) k (omega arith) ∙ ap Some (sym e))
+            (near_low _ (omega arith)) (arc.glued.across (n - suc k) k (omega arith) ∙ ap Some (sym e))
             ∙ spared.unmarked (n - suc k) (omega arith)) ∙ y)
 
         turned : (d : ℕ) → IsBreak d → TurnsAt cut d → TurnsAt rest d
@@ -230,5 +225,4 @@ module _ (faces : Faces) (m : IsManifold faces) (marks : List Bool) (marked : Ar
             ]
 
 pub spared_law : SparedLaw
-spared_law faces marks cut s t n m marked beside arc =
-    (to_spared faces m marks marked cut beside s t n arc, from_spared faces m marks marked cut beside s t n arc)
+spared_law faces marks cut s t n m marked beside arc = search (rules, to_spared, from_spared)

@@ -26,16 +26,9 @@ next_of-prev_of d = grind (arith, nat_tests)
 pub next_face : (d : ℕ) → next_of d / 4 ≡ d / 4
 next_face d = grind (arith, nat_tests)
 
-pub next_place : (d : ℕ) → d % 4 < 3 → next_of d % 4 ≡ d % 4 + 1
-next_place d l = grind (arith, nat_tests)
-
 pub two_on : (d : ℕ) → (d % 4 < 2 → next_of (next_of d) % 4 ≡ d % 4 + 2)
     × (2 ≤ d % 4 → next_of (next_of d) % 4 ≡ d % 4 - 2)
 two_on d = (λ l. grind (arith, nat_tests), λ l. grind (arith, nat_tests))
-
--- Four steps lead back.
-pub four_steps : (d : ℕ) → next_of (next_of (next_of (next_of d))) ≡ d
-four_steps d = grind (arith, nat_tests)
 
 -- The dart before one that leaves v arrives there.
 pub before_ends : (faces : Faces) (v d e : ℕ) → e ≡ prev_of d → from_of faces d ≡ v → to_of faces e ≡ v
@@ -72,9 +65,6 @@ step_vertex faces false d e s = s.1 ∙ before_from faces e
 abbrev pub ShareOne : (a b x y : ℕ) → Type 0
 ShareOne a b x y = (a ≡ y) ⊎ ((x ≡ b) ⊎ ((a ≡ x) ⊎ (b ≡ y)))
 
-pub meet_cases : (a b x y : ℕ) → meet (a ∷ b ∷ []) (x ∷ y ∷ []) ≡ true → ShareOne a b x y
-meet_cases a b x y t = grind (arith, nat_tests)
-
 pub meet_from : (a b x y : ℕ) → ShareOne a b x y → meet (a ∷ b ∷ []) (x ∷ y ∷ []) ≡ true
 meet_from a b x y s = grind (arith, nat_tests)
 
@@ -92,7 +82,7 @@ neighbour_back faces d e n =
 -- With each edge once, a neighbour is the corner itself or beside it.
 pub neighbour_step : (faces : Faces) → HasEdgesOnce faces → (d e : ℕ) → d < darts faces → e < darts faces
     → from_of faces d ≡ from_of faces e → AreNeighbours faces d e → (d ≡ e) ⊎ ((left : Bool) × Step faces left d e)
-neighbour_step faces once d e low high same n = by_case (meet_cases _ _ _ _ n)
+neighbour_step faces once d e low high same n = by_case (grind (arith, nat_tests))
   where
     by_case : ShareOne (to_of faces d) (from_of faces (prev_of d)) (to_of faces e) (from_of faces (prev_of e))
         → (d ≡ e) ⊎ ((left : Bool) × Step faces left d e)
@@ -100,10 +90,7 @@ neighbour_step faces once d e low high same n = by_case (meet_cases _ _ _ _ n)
     by_case (inr (inl a)) = inr (true, (high, sym same ∙ sym (before_from faces d), a))
     by_case (inr (inr (inl a))) = inl (once d e low high (same, a))
     by_case (inr (inr (inr a))) = inl (sym (next_of-prev_of d)
-        ∙ ap next_of (once (prev_of d) (prev_of e) (prev_of_low faces d low) (prev_of_low faces e high) (
-          a,
-          before_from faces d ∙ same ∙ sym (before_from faces e),
-        )) ∙ next_of-prev_of e)
+        ∙ ap next_of (search (rules, prev_of_low, before_from)) ∙ next_of-prev_of e)
 
 -- Chains: their ends, one after another, and back.
 pub chain_low : (faces : Faces) (d e n : ℕ) → d < darts faces → Chain faces d e n → e < darts faces
@@ -174,8 +161,7 @@ twin_reverse faces d e is = and_from _ _ (eq-eqb _ _ is.1) (eq-eqb _ _ is.2)
 -- With each edge once, the twin is that dart that has the ends exchanged.
 pub twin_found : (faces : Faces) → HasEdgesOnce faces → (d e : ℕ) → IsTwin faces d e → twin_of faces d ≡ Some e
 twin_found faces once d e is = find_one (is_reverse faces d) 0 (darts faces) e (omega arith) (omega (arith, is.0))
-    (twin_reverse faces d e is) (λ y l h r. let t : IsTwin faces d y = reverse_twin faces d y (omega arith) r in
-    once y e t.0 is.0 (t.1 ∙ sym is.1, t.2 ∙ sym is.2))
+    (twin_reverse faces d e is) (search rules)
 
 pub twin_none : (faces : Faces) (d : ℕ) → ((e : ℕ) → ¬ IsTwin faces d e) → twin_of faces d ≡ None
 twin_none faces d none = search (rules, find_none)
@@ -220,7 +206,7 @@ manifold_law faces m = record {
   prev_low = prev_of_low faces;
   prev_next = prev_of-next_of;
   next_prev = next_of-prev_of;
-  four_sides = four_steps;
+  four_sides = grind (arith, nat_tests);
   corners_differ = λ d l. (ends_differ faces m.repeat_free d l, opposite_differ faces m.repeat_free d l);
   twin_low = λ d e l t. (twin_is faces d e t).0;
   twin_twin = λ d e l t. let s = twin_is faces d e t in twin_found faces m.edges_once e d (l, sym s.2, sym s.1);

@@ -1,19 +1,18 @@
 -- The flood of a component is exact: it marks just the faces to which chains of shared edges lead.
 use Rattle.std.proofs.Common.{rules, ◌≡◌, ◌⊎◌, ℕ, zero, suc, ◌*◌, ◌<◌, ◌≤◌, Bool, true, false, not, cond, eqb, ◌&&◌}
 use Rattle.std.proofs.Common.{◌||◌, map, length, sym, subst, ap, ◌∙◌, refl, inl, inr, arith, List, [], ◌∷◌, get_or}
-use Rattle.std.proofs.lemmas.Bool.{not-true, eq-eqb, eqb-true, cases_Bool, or_left, or_right, or_cases, and_parts}
-use Rattle.std.proofs.lemmas.Bool.{and_from, false≢true, not_from_false}
-use Rattle.std.proofs.{lemmas.List.length-map, lemmas.List.FromFn.length-range_with_len}
-use Rattle.std.proofs.{lemmas.List.FromFn.get_or-map-range_with_len, lemmas.List.Sums.passes_at_first}
-use Rattle.std.proofs.{lemmas.List.Sums.fails_before_first, lemmas.List.Filters.length-filter_both}
-use Rattle.std.specs.List.{list_any, range_with_len, position_or_len}
-use Rattle.sum_laws.proofs.{Sums.count_below_lt, Sums.count_below_le, Sums.count_below_none, Sums.count_below_ones}
-use Rattle.sum_laws.proofs.{Tests.once_at_most, Tests.same_test}
-use Rattle.def_math.specs.Counts.{count_below}
+use Rattle.std.proofs.{lemmas.Bool.false≢true, lemmas.Bool.not_from_false, lemmas.List.length-map}
+use Rattle.std.proofs.{lemmas.List.Sums.passes_at_first, lemmas.List.Sums.fails_before_first}
+use Rattle.std.proofs.lemmas.Bool.{eq-eqb, eqb-true, cases_Bool, or_left, or_right, or_cases, and_parts, and_from}
+use Rattle.std.proofs.lemmas.List.FromFn.{length-range_with_len, get_or-map-range_with_len}
+use Rattle.sum_laws.proofs.Sums.{count_below_lt, count_below_le, count_below_ones}
 use Rattle.list_laws.proofs.Filters.{any_in_range, range_any, map_range_same}
 use Rattle.def_mesh.specs.Components.{share_edge, is_marked, within, component_of, least_face}
-use Rattle.def_mesh.specs.{Faces.Faces, Faces.all_faces, Darts.from_of, Darts.to_of, Darts.is_reverse, Darts.darts}
-use Rattle.def_mesh.specs.{Darts.all_darts, Vertices.above_all, Vertices.vertex_count, Vertices.faces_at}
+use Rattle.def_mesh.specs.Darts.{from_of, to_of, is_reverse, darts, all_darts}
+use Rattle.def_mesh.specs.Vertices.{above_all, vertex_count, faces_at}
+use Rattle.{std.proofs.lemmas.List.Filters.length-filter_both, std.specs.List.list_any, std.specs.List.range_with_len}
+use Rattle.{std.specs.List.position_or_len, sum_laws.proofs.Tests.once_at_most, def_math.specs.Counts.count_below}
+use Rattle.{def_mesh.specs.Faces.Faces, def_mesh.specs.Faces.all_faces}
 
 -- So many shared edges lead from face f to face g.
 abbrev pub Shares : (faces : Faces) (f g edges : ℕ) → Type 0
@@ -30,15 +29,12 @@ share_back faces f g s =
     let e = q.0 in
     let r = and_parts (eqb (from_of faces e) (to_of faces d)) (eqb (to_of faces e) (from_of faces d)) q.3 in
     any_in_range (λ x. list_any (is_reverse faces x) (range_with_len (4 * f) 4)) (4 * g) 4 e q.1 q.2
-    (any_in_range (is_reverse faces e) (4 * f) 4 d p.1 p.2 (and_from _ _ (eq-eqb _ _ (sym (eqb-true _ _ r.1)))
-    (eq-eqb _ _ (sym (eqb-true _ _ r.0)))))
+    (any_in_range (is_reverse faces e) (4 * f) 4 d p.1 p.2 (search rules))
 
 module _ (faces : Faces) where
   pub shares_join : (f g h n m : ℕ) → Shares faces f g n → Shares faces g h m → (k : ℕ) × Shares faces f h k
   shares_join f g h n zero a b = (n, subst (λ (x : ℕ). Shares faces f x n) b a)
-  shares_join f g h n (suc m) a b =
-      let j = shares_join f g b.0 n m a b.1 in
-      (suc j.0, (b.0, j.1, b.2, b.3, b.4))
+  shares_join f g h n (suc m) a b = let j = shares_join f g b.0 n m a b.1 in (suc j.0, (b.0, j.1, b.2, b.3, b.4))
 
   pub shares_back : (f g n : ℕ) → f < length faces → Shares faces f g n → (k : ℕ) × Shares faces g f k
   shares_back f g zero l s = (0, sym s)
@@ -69,10 +65,7 @@ module _ (faces : Faces) where
       ⊎ ((h : ℕ) × (h < length faces) × (mark f k h ≡ true) × (share_edge faces h g ≡ true))
   next_from f k g l m = elim (or_cases _ _ (sym (next_mark f k g l) ∙ m)) [
     | inl old ↦ inl old
-    | inr new ↦
-        let h = range_any (λ h. mark f k h && share_edge faces h g) 0 (length faces) new in
-        let p = and_parts (mark f k h.0) (share_edge faces h.0 g) h.3 in
-        inr (h.0, omega (arith, h.2), p.0, p.1)
+    | inr new ↦ search (rules, range_any)
   ]
 
   -- Each mark has a chain.
@@ -97,17 +90,11 @@ module _ (faces : Faces) where
   stays_stable f k stable g l m = elim (next_from f (suc k) g l m)
       [ inl old ↦ old | inr h ↦ reaches f k h.0 g h.1 l (stable h.0 h.1 h.2) h.3 ]
 
-  more_at : (b c : Bool) → (b ≡ true → c ≡ true) → cond b 1 0 ≤ cond c 1 0
-  more_at b c f = grind (arith)
-
-  one_more : (b c : Bool) → b ≡ false → c ≡ true → cond b 1 0 < cond c 1 0
-  one_more b c off on = rw (off, on) (omega arith)
-
   stable_or_more : (f k : ℕ) → f < length faces → IsStable f k ⊎ (suc k ≤ size f k)
   stable_or_more f zero lf =
       let more = count_below_lt (λ g. 0) (λ g. cond (mark f 0 g) 1 0) (length faces) f lf (λ k l. omega arith)
-      (one_more false (mark f 0 f) refl (first_mark f f lf ∙ eq-eqb f f refl)) in
-      inr (omega (arith, count_below_none (λ g. 0) (length faces) (λ k l. refl), more))
+      (search (rules, first_mark)) in
+      search rules
   stable_or_more f (suc k) lf =
       let is_new = λ (g : ℕ). mark f (suc k) g && not (mark f k g) in
       elim (stable_or_more f k lf) [
@@ -115,16 +102,13 @@ module _ (faces : Faces) where
         | inr big ↦ elim (cases_Bool (list_any is_new (all_faces faces))) [
           | inl new ↦
               let g = range_any is_new 0 (length faces) new in
-              let p = and_parts (mark f (suc k) g.0) (not (mark f k g.0)) g.3 in
               let less : size f k < size f (suc k) = count_below_lt (λ h. cond (mark f k h) 1 0) (λ h. cond (mark f
-              (suc k) h) 1 0) (length faces) g.0 (omega (arith, g.2)) (λ h lh. more_at (mark f k h) (mark f (suc k) h)
-              (grows f k h lh)) (one_more (mark f k g.0) (mark f (suc k) g.0) (not-true (mark f k g.0) p.1) p.0) in
+              (suc k) h) 1 0) (length faces) g.0 (omega (arith, g.2)) (search (rules, grows)) (search rules) in
               inr (omega arith)
           | inr none ↦ inl (stays_stable f k (λ g l m. elim (cases_Bool (mark f k g)) [
             | inl y ↦ y
-            | inr off ↦ absurd
-                (false≢true (sym none ∙ any_in_range is_new 0 (length faces) g (omega arith) (omega arith)
-                (and_from _ _ m (not_from_false _ off))))
+            | inr off ↦ absurd (false≢true (sym none ∙ any_in_range is_new 0 (length faces) g (omega arith)
+                (omega arith) (and_from _ _ m (not_from_false _ off))))
           ]))
         ]
       ]
@@ -161,13 +145,9 @@ module _ (faces : Faces) where
       let there = sound f last g lf lg m in
       let back = shares_back f g there.0 lf there.1 in
       let one_way : (f g n : ℕ) → f < length faces → g < length faces → Shares faces f g n → (x : ℕ) → x < length faces
-      → mark g (length faces) x ≡ true → mark f (length faces) x ≡ true = λ f g n lf lg s x lx m.
-      let c = sound g last x lg lx m in
-      let j = shares_join f g x n c.0 s c.1 in
-      complete f x j.0 lf j.1 in
-      marks_are g last ∙ (map_range_same (mark g last) (mark f last) 0 last (λ x l h. same_test _ _
-      (one_way f g there.0 lf lg there.1 x (omega arith)) (one_way g f back.0 lg lf back.1 x (omega arith)))
-      ∙ sym (marks_are f last))
+      → mark g (length faces) x ≡ true → mark f (length faces) x ≡ true = search (rules, sound, shares_join, complete)
+      in
+      search (rules, marks_are, map_range_same)
 
   -- The least face of a component.
   marks_long : (f : ℕ) → length (component_of faces f) ≡ length faces
@@ -220,6 +200,5 @@ count_least faces n within = search (rules, least_bound, from_count, from_at)
 -- A fan has at most all darts.
 pub fan_short : (faces : Faces) (v : ℕ) → faces_at faces v ≤ darts faces
 fan_short faces v =
-    let both = length-filter_both (λ d. eqb (from_of faces d) v) (λ d. not (eqb (from_of faces d) v)) (λ d. refl)
-    (all_darts faces) in
+    let both = length-filter_both _ (λ d. not (eqb (from_of faces d) v)) (λ d. refl) (all_darts faces) in
     omega (arith, length-range_with_len 0 (darts faces))

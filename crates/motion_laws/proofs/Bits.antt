@@ -1,6 +1,6 @@
 -- Who goes on at a vertex with four faces, told by two bits: the rider by d, where neither the rider to whom it gives
 -- way arrives nor the one from the opposite side.
-use Rattle.std.proofs.Common.{rules, ◌≡◌, ◌≢◌, ◌⊎◌, ℕ, ◌<◌, true, false, not, eqb, ◌&&◌, ◌||◌, List, [], ◌∷◌, sym, ap}
+use Rattle.std.proofs.Common.{rules, ◌≡◌, ◌≢◌, ◌⊎◌, ℕ, ◌<◌, true, false, not, ◌&&◌, List, [], ◌∷◌, sym, ap}
 use Rattle.std.proofs.Common.{◌∙◌, refl, inl, inr, Bool, Some, None}
 use Rattle.std.proofs.{lemmas.Bool.cases_Bool, lemmas.Bool.false≢true, lemmas.Bool.ne_eqb}
 use Rattle.def_mesh.specs.HalfEdges.{HalfEdges, IsQuadManifold}
@@ -31,14 +31,6 @@ pub rotated : (mesh : HalfEdges) → IsQuadManifold mesh → (d a b c : ℕ) →
 rotated mesh laws d a b c low x = search rules
 
 module _ (g : Terrain) (d p q r : ℕ) (round : AreRound g d p q r) where
-  -- Who else arrives beside d alone decides.
-  other : (y : ℕ) → (y ≡ p) ⊎ ((y ≡ q) ⊎ (y ≡ r)) → gives_way g y d ≡ (not (eqb p y || false) && not (eqb q y || false))
-  other y h1 = search rules
-
-  not_d : (y : ℕ) → d ≢ y → IsOfFour d p q r y → (y ≡ p) ⊎ ((y ≡ q) ⊎ (y ≡ r))
-  not_d y ne (inl e) = absurd (ne (sym e))
-  not_d y ne (inr o) = o
-
   first_of_two : (y : ℕ) → d ≢ y → IsOfFour d p q r y → goes_on g (d ∷ y ∷ []) d
       ≡ (not (is_among p (d ∷ y ∷ [])) && not (is_among q (d ∷ y ∷ [])))
   first_of_two y ne o = search rules

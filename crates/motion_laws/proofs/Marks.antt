@@ -1,21 +1,17 @@
 -- Lists of marks and of riders by index, and lists of darts that differ.
 use Rattle.std.proofs.Common.{rules, ◌≡◌, ◌⊎◌, ℕ, zero, suc, ◌<◌, ◌≤◌, Bool, true, false, eqb, ◌||◌, List, [], ◌∷◌}
 use Rattle.std.proofs.Common.{◌++◌, length, get_or, set, replicate, Option, Some, None, sym, ap, ◌∙◌, refl, inl, inr}
-use Rattle.std.proofs.Common.{arith}
-use Rattle.std.proofs.{lemmas.Bool.false≢true, Math.Bool.or-false, Math.Bool.or_assoc, Math.Bool.or_comm}
+use Rattle.std.proofs.{Common.arith, lemmas.Bool.false≢true, Math.Bool.or-false, Math.Bool.or_comm}
 use Rattle.std.proofs.{lemmas.List.length-set, lemmas.Option.none-some, lemmas.Option.same_Some}
-use Rattle.def_mesh.specs.HalfEdges.{HalfEdges, IsQuadManifold}
-use Rattle.def_cut.specs.{FullCut.is_on, Motion.Terrain, Motion.is_among, Motion.is_found, Events.mark_twin}
-use Rattle.def_cut.specs.{Events.marked_from, Events.darts_in, Events.note_at}
+use Rattle.def_cut.specs.Motion.{Terrain, is_among, is_found}
+use Rattle.def_cut.specs.Events.{mark_twin, marked_from, darts_in, note_at}
 use Rattle.motion_laws.proofs.Among.{AreApart, among_cases, among_here, among_later}
+use Rattle.{def_mesh.specs.HalfEdges.HalfEdges, def_mesh.specs.HalfEdges.IsQuadManifold, def_cut.specs.FullCut.is_on}
 use Rattle.{std.specs.List.list_any, sum_laws.proofs.Tests.same_test, cut_laws.proofs.Pigeon.no_more}
 
 -- A mark more.
 pub mark_is : (marks : List Bool) (k d : ℕ) → k < length marks → is_on (set marks k true) d ≡ (is_on marks d || eqb d k)
 mark_is marks k d l = search rules
-
-eqb_swap : (a b : ℕ) → eqb a b ≡ eqb b a
-eqb_swap a b = search rules
 
 -- In no darts none is found.
 pub none_found : (o : Option ℕ) → is_found o [] ≡ false
@@ -38,8 +34,7 @@ pub cover_more : (m : HalfEdges) → IsQuadManifold m → (marks : List Bool) (x
     → is_on marks d ≡ (old || (is_among d ds || is_found (m.twin d) ds))
     → is_on (mark_twin (m.twin x) (set marks x true)) d ≡ (old || (is_among d es || is_found (m.twin d) es))
 cover_more m laws marks x low long ds es more old d l before =
-    rw (at (m.twin x) refl, before, more d, found_more (m.twin d)) (shuffle old (is_among d ds) (is_found (m.twin d) ds)
-    (eqb d x) (is_found (m.twin d) (x ∷ [])))
+    rw (at (m.twin x) refl, before, more d, found_more (m.twin d)) (search rules)
   where
     one_way : (d e : ℕ) → d < m.count → is_found (m.twin d) (e ∷ []) ≡ true → is_found (m.twin e) (d ∷ []) ≡ true
     one_way d e ld f = search rules
@@ -50,14 +45,11 @@ cover_more m laws marks x low long ds es more old d l before =
     at : (o : Option ℕ) → m.twin x ≡ o
         → is_on (mark_twin o (set marks x true)) d ≡ (is_on marks d || (eqb d x || is_found (m.twin d) (x ∷ [])))
     at None is = search rules
-    at (Some t) is = mark_is (set marks x true) t d (omega (arith, laws.twin_low x t low is, length-set marks x true))
-        ∙ (ap (λ b. b || eqb d t) (mark_is marks x d (omega (arith, low, long))) ∙ (or_assoc (is_on marks d) (eqb d x)
-        (eqb d t) ∙ ap (λ b. is_on marks d || (eqb d x || b)) (eqb_swap d t ∙ (sym (or-false (eqb t d))
-        ∙ (ap (λ o. is_found o (d ∷ [])) (sym is) ∙ turned)))))
+    at (Some t) is = mark_is _ t d (omega (arith, laws.twin_low x t low is, length-set marks x true)) ∙ (search rules)
 
     found_more : (o : Option ℕ) → is_found o es ≡ (is_found o ds || is_found o (x ∷ []))
     found_more None = refl
-    found_more (Some t) = more t ∙ ap (λ b. is_among t ds || b) (sym (or-false (eqb t x)))
+    found_more (Some t) = more t ∙ ap (λ b. is_among t ds || b) (sym (or-false _))
 
     shuffle : (c m f a b : Bool) → ((c || (m || f)) || (a || b)) ≡ (c || ((m || a) || (f || b)))
     shuffle true m f a b = refl

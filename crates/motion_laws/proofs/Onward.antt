@@ -10,7 +10,7 @@ use Rattle.def_cut.specs.{declared.moving.Moving.Moving, Traced.finish, Traced.i
 use Rattle.cut_laws.proofs.{Corners.corner_law, Crosses.one_of_four, Crosses.low_b}
 use Rattle.motion_laws.proofs.Bits.{IsTerrain, IsReachedFrom, IsFirst, IsSoon, IsShut, IsCrossedAt}
 use Rattle.motion_laws.proofs.{Among.among_here, Among.cases_List, Steps.trail_more, Steps.next_is, Steps.step_keeps}
-use Rattle.motion_laws.proofs.{Steps.back, Steps.stands}
+use Rattle.motion_laws.proofs.Steps.{stands}
 
 -- Where nobody rides, a step changes no rider.
 pub still_riders : (g : Terrain) (stood : ℕ → Bool) (ds : List ℕ) (rs : List Moving) → ridden rs ≡ []
@@ -50,11 +50,7 @@ finish_later g first (suc k) i =
     let r = finish_later g first k (suc i) in
     elim (cases_List (ridden (later g first i).riders)) [
       | inl is ↦ (i, at_rest g (suc k) (later g first i) is, inl is)
-      | inr (d, ds, is) ↦ (
-        r.0,
-        runs_on g k d ds (later g first i) is ∙ r.1,
-        elim r.2 [ inl none ↦ inl none | inr s ↦ inr (omega (arith, s)) ],
-      )
+      | inr (d, ds, is) ↦ search rules
     ]
 
 -- What is counted where marks are off is no more where more are on.
@@ -92,21 +88,19 @@ module _ (g : Terrain) (t : IsTerrain g) (begins : ℕ → Bool) (first : State)
 
     pub rests_or_falls : (s : State) → IsReachedFrom g begins first s → (ridden (step g s).riders ≡ [])
         ⊎ (fresh (step g s) < fresh s)
-    rests_or_falls s r = elim (cases_List (ridden (step g s).riders)) [
+    rests_or_falls s r = elim (cases_List _) [
       | inl is ↦ inl is
       | inr (e, ds, is) ↦
-          let f = next_is g t begins first s r e (ap (is_among e) is ∙ among_here e e ds refl) in
+          let f = next_is g t _ _ s r e (ap (is_among e) is ∙ among_here e e ds refl) in
           let d = f.0 in
           let less : cond ((step g s).stood (end_of g f.0)) 0 1 < cond (s.stood (end_of g f.0)) 0 1 =
-          rw (stands g t begins first s r f.0 f.1, f.2.fresh) (omega arith) in
-          inr (count_below_lt (λ v. cond ((step g s).stood v) 0 1) (λ v. cond (s.stood v) 0 1) n (end_of g d)
-          (few (g.half.next d) (t.half.next_low d (r.low d f.1)))
-          (λ v l. no_more_at (s.stood v) ((step g s).stood v) (λ y. or_left _ _ y)) less)
+          rw (stands g t _ _ s r _ f.1, f.2.fresh) (omega arith) in
+          inr (count_below_lt _ _ n _ (few (g.half.next d) (t.half.next_low d (r.low d f.1))) (search rules) less)
     ]
 
     -- While somebody rides, each step leaves a rider at a vertex where none had stood.
     pub runs_out : (k : ℕ) → (ridden (later g first k).riders ≡ []) ⊎ (fresh (later g first k) + k < n)
-    runs_out zero = elim (cases_List (ridden first.riders)) [
+    runs_out zero = elim (cases_List _) [
       | inl is ↦ inl is
       | inr (d, ds, is) ↦
           let m : is_among d (ridden first.riders) ≡ true = ap (is_among d) is ∙ among_here d d ds refl in
@@ -114,17 +108,15 @@ module _ (g : Terrain) (t : IsTerrain g) (begins : ℕ → Bool) (first : State)
           inr (omega (
             arith,
             count_below_ones n,
-            count_below_lt (λ v. cond (first.stood v) 0 1) (λ v. 1) n (g.half.from d)
-                (few d (begin.reached.low d m)) (λ v l. at_most (first.stood v)) less,
+            count_below_lt _ _ n _ (few d (begin.reached.low d m)) (λ v l. at_most (first.stood v)) less,
           ))
     ]
       where
         at_most : (b : Bool) → cond b 0 1 ≤ 1
         at_most b = grind arith
     runs_out (suc k) = elim (runs_out k) [
-      | inl none ↦ inl (rests_on g first k none)
-      | inr low ↦ elim (rests_or_falls (later g first k) (later_reached k))
-          [ inl none ↦ inl none | inr falls ↦ inr (omega (arith, low, falls)) ]
+      | inl none ↦ inl (rests_on g _ k none)
+      | inr low ↦ search (rules, rests_or_falls, later_reached)
     ]
 
     -- After as many steps as there are vertices nobody runs.
@@ -160,9 +152,6 @@ module _ (g : Terrain) (t : IsTerrain g) (begins : ℕ → Bool) (first : State)
     alone_cut : (d : ℕ) → g.half.twin d ≡ None → cut d ≡ true
     alone_cut d w = or_right _ _ (ap (λ o. not (is_some o)) w)
 
-    covered_there : (d e : ℕ) → g.half.twin d ≡ Some e → cut d ≡ true → s.covered d ≡ true
-    covered_there d e w c = search rules
-
     cut_alike : (d e : ℕ) → d < g.half.count → g.half.twin d ≡ Some e → cut e ≡ cut d
     cut_alike d e low w = search rules
 
@@ -179,9 +168,9 @@ module _ (g : Terrain) (t : IsTerrain g) (begins : ℕ → Bool) (first : State)
         let next_low = t.half.next_low d low in
         elim (cases_Bool (g.boundary (end_of g d))) [
           | inl y ↦ elim (begin.sided d low y)
-              [ inl k ↦ inl (shut_cut next next_low k) | inr e ↦ inr (e.0, e.1, alone_cut (g.half.next e.0) e.2) ]
+              [ inl k ↦ inl (shut_cut next next_low k) | inr e ↦ inr (e.0, e.1, alone_cut _ e.2) ]
           | inr inner ↦ elim (cases_Bool (g.singular (end_of g d))) [
-            | inl y ↦ inl (shut_cut next next_low (begin.singular next next_low y))
+            | inl y ↦ inl (shut_cut _ next_low (begin.singular next next_low y))
             | inr regular ↦ by_cross (r.through next next_low (stood_there inner) inner regular)
           ]
         ]
@@ -195,21 +184,11 @@ module _ (g : Terrain) (t : IsTerrain g) (begins : ℕ → Bool) (first : State)
             let b = c.b in
             let on_x = soon_cut x c.soon in
             let on_b = soon_cut b c.facing in
-            elim (one_of_four t.half x c.a b c.c c.low c.cross (g.half.next d)
-            (record { low = t.half.next_low d low; at = sym c.at })) [
+            elim (one_of_four t.half x _ b _ c.low c.cross _ (record { low = t.half.next_low d low; at = sym c.at })) [
               | inl e ↦ inl (ap cut e ∙ on_x)
-              | inr (inl e) ↦ inr (
-                g.half.prev x,
-                ap g.half.twin e ∙ back g t (g.half.prev x) c.a (t.half.prev_low x c.low) c.cross.first,
-                ap cut (t.half.next_prev x) ∙ on_x,
-              )
+              | inr (inl e) ↦ inr (g.half.prev x, search rules, ap cut (t.half.next_prev x) ∙ on_x)
               | inr (inr (inl e)) ↦ inl (ap cut e ∙ on_b)
-              | inr (inr (inr e)) ↦ inr (
-                g.half.prev b,
-                ap g.half.twin e ∙ back g t (g.half.prev b) c.c
-                    (t.half.prev_low b (low_b t.half x c.a b c.c c.low c.cross)) c.cross.third,
-                ap cut (t.half.next_prev b) ∙ on_b,
-              )
+              | inr (inr (inr e)) ↦ inr (g.half.prev b, search (rules, low_b), ap cut (t.half.next_prev b) ∙ on_b)
             ]
 
     traced : IsTraced g.half begins cut
@@ -217,13 +196,12 @@ module _ (g : Terrain) (t : IsTerrain g) (begins : ℕ → Bool) (first : State)
       alike = cut_alike;
       boundary = λ d low w. alone_cut d w;
       started = λ d low b. soon_cut d (r.kept d (begin.begun d low b));
-      before = λ d low b. shut_cut (g.half.prev d) (t.half.prev_low d low) (begin.before d low b);
-      beside = λ d e low b w. shut_cut (g.half.next e) (t.half.next_low e (t.half.twin_low d e low w))
-          (begin.beside d e low b w);
+      before = λ d low b. shut_cut _ (t.half.prev_low d low) (begin.before d low b);
+      beside = λ d e low b w. shut_cut _ (t.half.next_low e (t.half.twin_low d e low w)) (begin.beside d e low b w);
       tracked = λ d e low w c.
           let more = λ (x k : ℕ) (p : Trail g.half begins s.covered x k).
-          trail_more g.half begins s.covered cut (λ e c. or_left _ _ c) x k p in
-          let k = r.tracked d low (covered_there d e w c) in
+          trail_more g.half _ _ cut (λ e c. or_left _ _ c) x k p in
+          let k = r.tracked d low (search rules) in
           (k.0, elim k.1 [ inl p ↦ inl (more d k.0 p) | inr f ↦ inr (f.0, f.1, more f.0 k.0 f.2) ]);
     }
 

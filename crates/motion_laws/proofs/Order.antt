@@ -1,26 +1,25 @@
 -- Events keep what event states show, so every order of events has one end.
 use Rattle.std.proofs.Common.{rules, ◌≡◌, ℕ, zero, suc, ◌+◌, ◌-◌, ◌<◌, ◌≤◌, Bool, true, false, cond, eqb, ◌&&◌, ◌||◌}
-use Rattle.std.proofs.Common.{List, [], ◌∷◌, ◌++◌, map, length, set, replicate, Option, Some, None, sym, ap, ◌∙◌, refl}
-use Rattle.std.proofs.Common.{inl, inr, arith}
+use Rattle.std.proofs.Common.{List, [], ◌∷◌, ◌++◌, length, set, replicate, Option, Some, None, sym, ap, ◌∙◌, refl, inl}
+use Rattle.std.proofs.{Common.inr, Common.arith, lemmas.List.length-append, Math.Bool.or-false}
 use Rattle.std.proofs.lemmas.Bool.{eq-eqb, eqb-true, false≢true, cases_Bool, cases_eq, cases_lt, or_right, and_parts}
 use Rattle.std.proofs.lemmas.Bool.{and_from, not_from_false, false_from_ne_true}
 use Rattle.std.proofs.lemmas.List.{get_or-set_same, get_or-set_other, length-set, length-replicate, length-map}
-use Rattle.std.proofs.lemmas.List.{length-append}
-use Rattle.std.{proofs.Math.Bool.or-false, specs.List.list_any}
 use Rattle.def_cut.specs.Motion.{Terrain, State, end_of, with_next, ridden, is_among, is_met, arrives_at, ride, begun}
 use Rattle.def_cut.specs.Motion.{step, start, after_steps}
+use Rattle.def_cut.specs.{FullCut.is_on, declared.graph.Stop.Stop, declared.moving.Moving.Moving, Traced.end_state}
 use Rattle.def_cut.specs.Events.{EventState, waiting, darts_in, rider_at, note_at, may_ride, mark_twin, after_ride_of}
 use Rattle.def_cut.specs.Events.{leads_to, may_settle, decided_at, are_ends_settled, closed, after_settling}
 use Rattle.def_cut.specs.Events.{first_state, Event, May, Leads, rides_in, NobodyRuns}
-use Rattle.def_cut.specs.{FullCut.is_on, declared.graph.Stop.Stop, declared.moving.Moving.Moving, Traced.end_state}
-use Rattle.def_cut.specs.{Events.Event.Ride, Events.Event.Settle}
 use Rattle.motion_laws.proofs.Marks.{none_on, none_found, no_darts, cover_more, from_marks, marked_long, noted_more}
 use Rattle.motion_laws.proofs.Marks.{noted_longer, apart_few, among_append, apart_append}
 use Rattle.motion_laws.proofs.Shown.{runs_ridden, IsShown, AreShown, all_noted, darts_of, noted_rides, notes_of}
 use Rattle.motion_laws.proofs.Shown.{ride_shown, somebody, as_was, still_runs, closed_is, none_shown, told_shown}
 use Rattle.motion_laws.proofs.Onward.{ends, later_reached, rides_once, runs_out, still_riders}
-use Rattle.motion_laws.proofs.{Among.any_at, Among.any_where, Among.all_at, Among.not_all, Among.AreApart}
-use Rattle.motion_laws.proofs.{Bits.IsTerrain, Bits.IsStarted, Bits.IsReached, Steps.first}
+use Rattle.motion_laws.proofs.Among.{any_at, any_where, all_at, not_all, AreApart}
+use Rattle.motion_laws.proofs.Bits.{IsTerrain, IsStarted, IsReached}
+use Rattle.{std.specs.List.list_any, def_cut.specs.Events.Event.Ride, def_cut.specs.Events.Event.Settle}
+use Rattle.motion_laws.proofs.Steps.{first}
 
 -- Where nobody runs, nobody rides.
 nobody_rides : (rs : List Moving) → ((r : ℕ) → r < length rs → (rider_at rs r).stop ≡ None → ⊥) → ridden rs ≡ []
@@ -76,29 +75,23 @@ module _ {g : Terrain} {starts : List ℕ} {n : ℕ} (w : IsCourse g starts n) w
       [ inl a ↦ (k, omega arith, a) | inr b ↦ let r = in_history k d b in (r.0, omega (arith, r.1), r.2) ]
 
   not_before : (k d : ℕ) → is_among d (ridden (after k).riders) ≡ true → is_among d (history g starts k) ≡ true → ⊥
-  not_before k d m b = let r = in_history k d b in rides_once g terrain
-      (λ e. is_among e starts) (start g starts) (first g terrain starts begin) d r.0 k r.1 r.2 m
+  not_before k d m b = let r = in_history k d b in rides_once g terrain _ _ (first g terrain _ begin) d _ k r.1 r.2 m
 
   history_apart : (k : ℕ) → AreApart (history g starts k)
   history_apart zero = tt
-  history_apart (suc k) = apart_append (ridden (after k).riders) (history g starts k)
-      (reached_at k).apart (history_apart k) (not_before k)
+  history_apart (suc k) = apart_append _ _ (reached_at k).apart (history_apart k) (not_before k)
 
   rest_more : (k j : ℕ) → ridden (after k).riders ≡ [] → Alike (after (j + k)) (after k)
   rest_more k zero none = let e : 0 + k ≡ k = omega arith in rw e (refl, λ d. refl)
   rest_more k (suc j) none =
       let e : suc j + k ≡ suc (j + k) = omega arith in
-      let r = rest_more k j none in
-      let s = after_steps g starts (j + k) in
-      let still : ridden (after_steps g starts (j + k)).riders ≡ [] = ap ridden r.0 ∙ none in
-      rw e (still_riders g s.stood (ridden s.riders) s.riders still ∙ r.0, λ d. none_more g s _ d still ∙ r.1 d)
+      search (rules, still_riders, rest_more k j none)
 
   alike : (i j : ℕ) → ridden (after i).riders ≡ [] → ridden (after j).riders ≡ [] → Alike (after i) (after j)
   alike i j a b = elim (cases_lt i j) [
     | inl l ↦
         let e : (j - i) + i ≡ j = omega arith in
-        let r : Alike (after j) (after i) = rw e at (rest_more i (j - i) a) in
-        (sym r.0, λ d. sym (r.1 d))
+        search (rules, rest_more)
     | inr l ↦
         let e : (i - j) + j ≡ i = omega arith in
         rw e at (rest_more j (i - j) b)
@@ -106,16 +99,14 @@ module _ {g : Terrain} {starts : List ℕ} {n : ℕ} (w : IsCourse g starts n) w
 
   -- While somebody rides, fewer steps were made than there are vertices.
   pub steps_few : (k e : ℕ) → is_among e (ridden (after_steps g starts k).riders) ≡ true → k < n
-  steps_few k e m = elim
-      (runs_out g terrain (λ e. is_among e starts) (start g starts) (first g terrain starts begin) n few k)
+  steps_few k e m = elim (runs_out g terrain _ _ (first g terrain _ begin) n few k)
       [ inl none ↦ absurd (false≢true (sym (ap (is_among e) none) ∙ m)) | inr low ↦ omega (arith, low) ]
 
   -- Wherever nobody runs, the state is like the last.
   like_last : (i : ℕ) → ridden (after i).riders ≡ [] → Alike (after i) (end_state g n starts)
   like_last i none =
       let f = ends g terrain (λ e. is_among e starts) (start g starts) (first g terrain starts begin) n few in
-      let r = alike i f.0 none f.2 in
-      (r.0 ∙ sym (ap (λ (s : State). s.riders) f.1), λ d. r.1 d ∙ sym (ap (λ (s : State). s.covered d) f.1))
+      search (rules, alike)
 
 module _ {g : Terrain} {starts : List ℕ} {n : ℕ} {x : EventState} {c : ℕ} (w : IsWithin g starts n x c) where
   open w use {course, terrain, begin, few, instant, shown, counted, shown.riders}
@@ -142,9 +133,6 @@ module _ {g : Terrain} {starts : List ℕ} {n : ℕ} {x : EventState} {c : ℕ} 
     pub noted_low : r < length x.noted
     noted_low = omega (arith, low, riders.riders_long, riders.notes_long)
 
-    none_settled : (v : ℕ) → is_on x.settled v ≡ false
-    none_settled v = search rules
-
     pub ride_keeps : IsWithin g starts n (after_ride_of g x r) (suc c)
     ride_keeps =
         let rode_low = reached.low dart rode.1 in
@@ -153,21 +141,20 @@ module _ {g : Terrain} {starts : List ℕ} {n : ℕ} {x : EventState} {c : ℕ} 
           course = course;
           instant = instant;
           shown = record {
-            riders = ride_shown riders r low may (none_settled (end_of g dart));
+            riders = ride_shown riders r low may (search rules);
             stood_long = shown.stood_long;
-            covered_long = mark_twin_long (g.half.twin dart) (set x.covered dart true)
-                ∙ (length-set x.covered dart true ∙ shown.covered_long);
+            covered_long = search rules;
             settled_long = shown.settled_long;
             stood = shown.stood;
             covered = λ e l. cover_more g.half terrain.half x.covered dart rode_low shown.covered_long
                 (darts_in x.noted) (darts_in (set x.noted r (Some dart))) more (since.covered e) e l
                 (shown.covered e l);
-            ends = λ v on. absurd (false≢true (sym (none_settled v) ∙ on));
-            phase = inr none_settled;
+            ends = λ v on. absurd (false≢true (sym (search rules) ∙ on));
+            phase = inr (search rules);
             rest = inr (
               dart,
               more dart ∙ or_right (is_among dart (darts_in x.noted)) (eqb dart dart) (eq-eqb dart dart refl),
-              none_settled (end_of g dart),
+              (search rules),
             );
           };
           counted = omega (arith, counted, noted_longer x.noted r dart noted_low rode.0);
@@ -222,19 +209,7 @@ module _ {g : Terrain} {starts : List ℕ} {n : ℕ} {x : EventState} {c : ℕ} 
 
     stands_now : (u : ℕ) → u < n → is_on (decided_at g x v).stood u
         ≡ (since.stood u || (is_settled u && list_any (arrives_at g now u) now))
-    stands_now u l = elim (cases_eq u v) [
-      | inl e ↦ rw (
-        e,
-        get_or-set_same x.stood v (is_on x.stood v || list_any (arrives_at g (darts_in x.noted) v)
-            (darts_in x.noted)) false (omega (arith, v_low, shown.stood_long)),
-        stood_then parts.0 v v_low parts.2,
-        all_ridden parts.0,
-        now_on,
-      ) refl
-      | inr ne ↦ get_or-set_other x.stood v u (is_on x.stood v
-          || list_any (arrives_at g (darts_in x.noted) v) (darts_in x.noted)) false ne
-          ∙ rw (get_or-set_other x.settled v u true false ne) (shown.stood u l)
-    ]
+    stands_now u l = elim (cases_eq u v) [ inl e ↦ search (rules, all_ridden) | inr ne ↦ search rules ]
 
     pub settle_keeps : IsWithin g starts n (after_settling g x v) c
     settle_keeps = at (are_ends_settled g (set x.settled v true) (darts_in x.noted)) refl
@@ -299,41 +274,30 @@ module _ {g : Terrain} {starts : List ℕ} {n : ℕ} {x : EventState} {c : ℕ} 
                 phase = inr none;
                 rest = inl (no_darts (length x.noted), none);
               };
-              counted = omega (
-                arith,
-                ap length (no_darts (length x.noted)),
-                length-append (ridden since.riders) (history g starts instant),
-                ap length (all_ridden parts.0),
-              );
+              counted = search (rules, no_darts, length-append, all_ridden);
             }
 
   pub bounded : c ≤ g.half.count
   bounded =
-      let apart = apart_append (darts_in x.noted) (history g starts instant) (notes_of since.riders x.noted
-      riders.notes_long riders.noted reached.apart)
-      (history_apart course instant) (λ d m b. not_before course instant d (noted_rides riders d m) b) in
+      let apart = apart_append _ _ (notes_of _ _ riders.notes_long riders.noted reached.apart)
+      (history_apart course instant) (search (rules, not_before, noted_rides)) in
       let low : (d : ℕ) → is_among d (darts_in x.noted ++ history g starts instant) ≡ true → d < g.half.count =
-      λ d m. elim (among_append d (darts_in x.noted) (history g starts instant) m) [
+      λ d m. elim (among_append d _ _ m) [
         | inl a ↦ reached.low d (noted_rides riders d a)
         | inr b ↦ let r = in_history course instant d b in (reached_at course r.0).low d r.2
       ] in
-      omega (
-        arith,
-        length-append (darts_in x.noted) (history g starts instant),
-        apart_few g.half.count (darts_in x.noted ++ history g starts instant) apart low,
-      )
+      search (rules, length-append, apart_few)
 
   -- Where a rider runs, some event is possible.
   pub possible : (r : ℕ) → r < length x.riders → (rider_at x.riders r).stop ≡ None → (e : Event) × May g x e
-  possible r low runs = elim (somebody x.riders x.noted) [
+  possible r low runs = elim (somebody x.riders _) [
     | inr q ↦ (Ride q.0, (q.1, q.2))
     | inl done ↦ elim shown.rest [
       | inl none ↦ absurd (false≢true (sym (ap (is_among (rider_at x.riders r).dart)
           (ap ridden (as_was riders none.0) ∙ (sym (all_ridden done) ∙ none.0))) ∙ runs_ridden x.riders r low runs))
       | inr f ↦ (
         Settle (end_of g f.0),
-        and_from _ _ (eq-eqb _ _ done) (and_from _ _ (any_at (leads_to g (end_of g f.0)) f.0 (darts_in x.noted) f.1
-            (eq-eqb _ _ refl)) (not_from_false _ f.2)),
+        and_from _ _ (eq-eqb _ _ done) (and_from _ _ (any_at _ f.0 _ f.1 (eq-eqb _ _ refl)) (not_from_false _ f.2)),
       )
     ]
   ]
@@ -362,23 +326,20 @@ pub within : {g : Terrain} {starts : List ℕ} {n : ℕ} → IsCourse g starts n
     → Leads g (first_state g n starts) es x → IsWithin g starts n x (rides_in es)
 within {g} {starts} {n} w es x l =
     let e : 0 + rides_in es ≡ rides_in es = omega arith in
-    rw (← e) (within_from es (first_state g n starts) x 0 (record {
+    rw (← e) (within_from es _ x 0 (record {
       course = w;
       instant = 0;
       shown = record {
-        riders = none_shown g (start g starts).stood (ridden (start g starts).riders) (is_on (replicate n false))
-            (map begun starts) (length starts) (length-map starts begun);
-        stood_long = marked_long g starts (replicate n false) ∙ length-replicate n false;
+        riders = none_shown g _ _ _ _ _ (length-map starts begun);
+        stood_long = marked_long g starts _ ∙ length-replicate n false;
         covered_long = length-replicate g.half.count false;
         settled_long = length-replicate n false;
-        stood = λ v l. from_marks g starts (replicate n false) v (λ d m. omega (
+        stood = λ v l. from_marks g starts _ v (λ d m. omega (
           arith,
           w.few d (w.begin.low d m),
           length-replicate n false,
         )) ∙ rw (none_on n v) refl;
-        covered = λ d l. none_on g.half.count d
-            ∙ sym (none_more g (start g starts) (darts_in (replicate (length starts) None)) d
-            (no_darts (length starts)));
+        covered = search (rules, none_on, no_darts);
         ends = λ v on. absurd (false≢true (sym (none_on n v) ∙ on));
         phase = inr (none_on n);
         rest = inl (no_darts (length starts), none_on n);

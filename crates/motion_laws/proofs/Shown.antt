@@ -2,9 +2,8 @@
 use Rattle.std.proofs.Common.{rules, ◌≡◌, ◌⊎◌, ℕ, zero, suc, ◌<◌, Bool, true, List, [], ◌∷◌, map, length, Option, Some}
 use Rattle.std.proofs.Common.{None, sym, ap, ◌∙◌, refl, inl, inr, arith, ◌≢◌, false, cond, ◌&&◌, ◌||◌, set, replicate}
 use Rattle.std.proofs.lemmas.Bool.{false≢true, false_from_ne_true, ne_eqb, eq-eqb, cases_Bool, cases_eq}
-use Rattle.std.proofs.lemmas.List.{ext_get_or, get_or-map, get_or-set_same, get_or-set_other, length-map, length-set}
-use Rattle.std.proofs.lemmas.List.{length-replicate}
-use Rattle.std.{proofs.lemmas.Option.none-some, proofs.lemmas.Option.same_Some, specs.List.list_any}
+use Rattle.std.proofs.lemmas.List.{ext_get_or, get_or-map, get_or-set_other, length-map, length-set, length-replicate}
+use Rattle.std.{proofs.lemmas.Option.none-some, specs.List.list_any}
 use Rattle.def_cut.specs.Motion.{Terrain, straight, with_next, ridden, is_among, stop_of, or_else, ride_on, ride, State}
 use Rattle.def_cut.specs.Motion.{end_of, is_met, arrives_at, begun, after_ride}
 use Rattle.def_cut.specs.Events.{rider_at, EventState, is_waiting, waiting, with_note, darts_in, note_at}
@@ -65,13 +64,7 @@ module _ (g : Terrain) (stood : ℕ → Bool) (ds : List ℕ) where
   pub next_to : (rs : List Moving) (d : ℕ) → is_among d (ridden rs) ≡ true → stop_of g stood ds d ≡ None
       → is_among (next_dart d) (riding rs) ≡ true
   next_to [] d m on = absurd (false≢true m)
-  next_to (r ∷ rs) d m on =
-      let rest = next_to rs d in
-      elim (with_cases r.stop r.dart d (ridden rs) m) [
-        | inl f ↦ rw (f.0, sym (ap (stop_of g stood ds) f.1) ∙ on)
-            (among_here (next_dart d) (next_dart r.dart) (riding rs) (ap (λ x. next_dart x) f.1))
-        | inr k ↦ with_later (ride g stood ds r).stop (ride g stood ds r).dart (next_dart d) (riding rs) (rest k on)
-      ]
+  next_to (r ∷ rs) d m on = let rest = next_to rs d in search (rules, with_later)
 
   -- Riders that go on ride different darts, where the next darts of different darts differ.
   abbrev pub NextDiffer : (rs : List Moving) → Type 0
@@ -81,8 +74,7 @@ module _ (g : Terrain) (stood : ℕ → Bool) (ds : List ℕ) where
   pub next_apart : (rs : List Moving) → AreApart (ridden rs) → NextDiffer rs → AreApart (riding rs)
   next_apart [] apart differ = tt
   next_apart (r ∷ rs) apart differ = at_rider r.stop (stop_of g stood ds r.dart) refl refl apart (next_apart rs
-      (apart_later r.stop r.dart (ridden rs) apart) (λ d e m n. differ d e
-      (with_later r.stop r.dart d (ridden rs) m) (with_later r.stop r.dart e (ridden rs) n)))
+      (apart_later _ _ _ apart) (λ d e m n. differ d e (with_later _ _ d _ m) (with_later _ _ e (ridden rs) n)))
     where
       at_rider : (o q : Option Stop) → r.stop ≡ o → stop_of g stood ds r.dart ≡ q
           → AreApart (with_next o r.dart (ridden rs)) → AreApart (riding rs)
@@ -225,11 +217,7 @@ module _ {g : Terrain} {stood : ℕ → Bool} {ds : List ℕ} {V : ℕ → Bool}
     | inr (d, is) ↦ is ∙ ap Some (a.noted r d is).1
     | inl is ↦
         let waits : is_waiting (rider_at rs r).stop (note_at ns r) ≡ true = rw (bare r is, is, runs) refl in
-        absurd (omega (
-          arith,
-          w,
-          waits_counted rs ns r (omega (arith, l, a.riders_long)) (omega (arith, l, a.notes_long)) waits,
-        ))
+        search (rules, waits_counted)
   ]
 
   pub noted_rides : (d : ℕ) → is_among d (darts_in ns) ≡ true → is_among d (ridden bs) ≡ true
@@ -241,21 +229,12 @@ module _ {g : Terrain} {stood : ℕ → Bool} {ds : List ℕ} {V : ℕ → Bool}
       → AreShown g stood ds V bs (set rs r (ridden_once_more (rider_at rs r))) (set ns r (Some (rider_at rs r).dart))
   ride_shown r l w off =
       let (runs, none) = waits_runs (rider_at rs r).stop (note_at ns r) w in
-      let same = bare r none in
-      let d = (rider_at rs r).dart in
-      let here : note_at (set ns r (Some (rider_at rs r).dart)) r ≡ Some (rider_at rs r).dart =
-      get_or-set_same ns r (Some (rider_at rs r).dart) None (omega (arith, l, a.riders_long, a.notes_long)) in
       record {
         riders_long = length-set rs r _ ∙ a.riders_long;
         notes_long = length-set ns r _ ∙ a.notes_long;
-        noted = λ q e is. elim (cases_eq q r) [
-          | inl s ↦ rw (s, ← same)
-              (runs, sym (same_Some d e (sym here ∙ (ap (note_at (set ns r (Some d))) (sym s) ∙ is))))
-          | inr ne ↦ a.noted q e (sym (get_or-set_other ns r q (Some d) None ne) ∙ is)
-        ];
+        noted = search rules;
         shows = λ q. elim (cases_eq q r) [
-          | inl s ↦ rw (s, here, get_or-set_same rs r (ridden_once_more (rider_at rs r)) (begun 0) l, off)
-              (ap ridden_once_more same)
+          | inl s ↦ search rules
           | inr ne ↦ rw (
             get_or-set_other rs r q (ridden_once_more (rider_at rs r)) (begun 0) ne,
             get_or-set_other ns r q (Some (rider_at rs r).dart) None ne,
@@ -277,9 +256,7 @@ module _ {g : Terrain} {stood : ℕ → Bool} {ds : List ℕ} {V : ℕ → Bool}
   pub closed_is : AllNoted bs ns → ((d : ℕ) → is_among d (darts_in ns) ≡ true → V (end_of g d) ≡ true)
       → rs ≡ map (ride g stood ds) bs
   closed_is all on = ext_get_or (begun 0) rs (map (ride g stood ds) bs)
-      (a.riders_long ∙ sym (length-map bs (ride g stood ds))) (λ r h.
-      let l : r < length bs = omega (arith, h, a.riders_long) in
-      a.shows r ∙ (at r l (rider_at bs r).stop refl ∙ sym (get_or-map (ride g stood ds) bs r (begun 0) (begun 0) l)))
+      (a.riders_long ∙ sym (length-map bs (ride g stood ds))) (search (rules, at, get_or-map))
     where
       at : (r : ℕ) → r < length bs → (o : Option Stop) → (rider_at bs r).stop ≡ o
           → shown_by g stood ds V (rider_at bs r) (note_at ns r) ≡ ride_on g stood ds (rider_at bs r) o

@@ -3,17 +3,16 @@ use Rattle.std.proofs.Common.{rules, ◌≡◌, ◌⊎◌, ℕ, zero, suc, ◌<�
 use Rattle.std.proofs.Common.{ap, ◌∙◌, refl, inl, inr, eqb, [], ◌∷◌, map, subst}
 use Rattle.std.proofs.lemmas.Bool.{eq-eqb, eqb-true, false≢true, false_from_ne_true, cases_Bool, or_left, or_right}
 use Rattle.std.proofs.lemmas.Bool.{or_cases, and_from, and_parts, not_from_false}
-use Rattle.{std.proofs.lemmas.Option.same_Some, sum_laws.proofs.Tests.same_test, def_mesh.specs.HalfEdges.HalfEdges}
-use Rattle.def_cut.specs.Motion.{Terrain, State, end_of, straight, ridden, is_among, is_found, is_met, arrives_at}
+use Rattle.def_cut.specs.Motion.{Terrain, State, end_of, straight, ridden, is_among, is_met, arrives_at}
 use Rattle.def_cut.specs.Motion.{arrivals, goes_on, stop_of, or_else, step, begun, start}
 use Rattle.def_cut.specs.{Cuts.IsCross, Cuts.HasCross, Trails.IsStraight, Trails.Trail}
-use Rattle.cut_laws.proofs.{Crosses.low_a, Crosses.low_c, Crosses.at_a, Crosses.at_b, Crosses.at_c, Crosses.low_b}
-use Rattle.cut_laws.proofs.{Folds.twin_same, Folds.turn_from, Folds.turn_low}
+use Rattle.cut_laws.proofs.Crosses.{low_a, at_a, at_b, low_b}
+use Rattle.cut_laws.proofs.Folds.{twin_same, turn_from, turn_low}
 use Rattle.motion_laws.proofs.Among.{AreApart, any_at, any_where, apart_filter, found_where, from_filter, in_filter}
-use Rattle.motion_laws.proofs.Among.{cases_Option}
 use Rattle.motion_laws.proofs.Bits.{IsTerrain, IsReachedFrom, IsKnown, IsSoon, IsCrossedAt, crossed_at, IsStarted}
 use Rattle.motion_laws.proofs.Bits.{IsFirst, IsShut, rotated, round_of, of_round, two_bits_of}
 use Rattle.motion_laws.proofs.Shown.{next_from, next_to, next_apart}
+use Rattle.{def_mesh.specs.HalfEdges.HalfEdges, motion_laws.proofs.Among.cases_Option}
 
 -- Trails stay where more is covered.
 pub trail_more : (m : HalfEdges) (begin cut more : ℕ → Bool) → ((d : ℕ) → cut d ≡ true → more d ≡ true) → (d k : ℕ)
@@ -42,22 +41,14 @@ module _ (g : Terrain) (t : IsTerrain g) where
     pub arrives : (d v : ℕ) → is_among d ds ≡ true → end_of g d ≡ v → stood v ≡ false → arrives_at g ds v d ≡ true
     arrives d v m at off = and_from _ _ (eq-eqb _ _ at) (not_from_false _ (unmet d m (ap stood at ∙ off)))
 
-    -- So those who arrive are all who come.
-    pub all_arrive : (x v : ℕ) → end_of g x ≡ v → stood v ≡ false → is_among x (arrivals g ds v) ≡ is_among x ds
-    all_arrive x v at off = search (rules, from_filter, in_filter, arrives)
-
     -- Who goes on, by two bits.
     pub two_bits : (d a b c : ℕ) → is_among d ds ≡ true → stood (end_of g d) ≡ false
         → IsCross g.half (g.half.next d) a b c → goes_on g (arrivals g ds (end_of g d)) d
         ≡ (not (is_among (g.half.prev a) ds) && not (is_among (g.half.prev b) ds))
     two_bits d a b c m off x = two_bits_of g d (g.half.prev a) (g.half.prev b) (g.half.prev c) (round_of g t.half d a b
         c (low d m) x) (arrivals g ds (end_of g d)) (apart_filter (arrives_at g ds (end_of g d)) ds apart)
-        (in_filter (arrives_at g ds (end_of g d)) d ds m (arrives d (end_of g d) m refl off))
-        (λ y n. let f = from_filter (arrives_at g ds (end_of g d)) y ds n in
-        let p = and_parts _ _ f.1 in
-        of_round g t.half d a b c (low d m) x y (low y f.0) (eqb-true _ _ p.0)) ∙ (ap (λ k. not k && not (is_among
-        (g.half.prev b) (arrivals g ds (end_of g d)))) (all_arrive (g.half.prev a) (end_of g d) end_a off) ∙ ap
-        (λ k. not (is_among (g.half.prev a) ds) && not k) (all_arrive (g.half.prev b) (end_of g d) end_b off))
+        (search (rules, in_filter, arrives)) (λ y n. let f = from_filter (arrives_at g ds (end_of g d)) y ds n in
+        search (rules, of_round)) ∙ (search (rules, from_filter, in_filter, arrives, end_a, end_b))
       where
         next_low : g.half.next d < g.half.count
         next_low = t.half.next_low d (low d m)
@@ -71,10 +62,7 @@ module _ (g : Terrain) (t : IsTerrain g) where
   -- A rider that goes on leaves the vertex by the edge opposite to that by which it came.
   pub goes_straight : (d a b c : ℕ) → d < g.half.count → IsCross g.half (g.half.next d) a b c → IsStraight g.half d c
       × (straight g d ≡ Some c)
-  goes_straight d a b c low x = (
-    (g.half.prev c, over, sym (t.half.next_prev c)),
-    ap (λ o. Rattle.std.specs.Prelude.option_map g.half.next o) over ∙ ap Some (t.half.next_prev c),
-  )
+  goes_straight d a b c low x = ((g.half.prev c, over, sym (t.half.next_prev c)), search rules)
     where
       over : g.half.twin (g.half.next d) ≡ Some (g.half.prev c)
       over = search rules
@@ -93,17 +81,7 @@ module _ (g : Terrain) (t : IsTerrain g) where
       let o = goes_from g stood ds d on in
       let next_low = t.half.next_low d low in
       let (a, b, c, x) = t.crossed (g.half.next d) next_low o.0 o.1 in
-      let c_low = low_c t.half (g.half.next d) a b c next_low x in
-      let c_at = at_c t.half (g.half.next d) a b c next_low x in
-      let s = goes_straight d a b c low x in
-      let same : e ≡ c = is ∙ ap (λ k. or_else k d) s.1 in
-      rw same (record {
-        low = c_low;
-        straight = s.0;
-        at = c_at;
-        cross = t.crossed c c_low (ap g.boundary c_at ∙ o.0) (ap g.singular c_at ∙ o.1);
-        fresh = o.2;
-      })
+      search (rules, goes_straight)
 
   -- Straight on from different darts lead different darts.
   pub straight_same : (d e x : ℕ) → d < g.half.count → e < g.half.count → IsStraight g.half d x → IsStraight g.half e x
@@ -125,9 +103,6 @@ module _ (g : Terrain) (t : IsTerrain g) where
 
     covered_rode : (d : ℕ) → Rides d → next.covered d ≡ true
     covered_rode d m = or_right _ _ (or_left _ _ m)
-
-    covered_twin : (d e : ℕ) → g.half.twin d ≡ Some e → Rides e → next.covered d ≡ true
-    covered_twin d e w m = or_right _ _ (or_right _ _ (ap (λ o. is_found o now) w ∙ m))
 
     pub stood_old : (v : ℕ) → s.stood v ≡ true → (step g s).stood v ≡ true
     stood_old v c = or_left _ _ c
@@ -155,9 +130,7 @@ module _ (g : Terrain) (t : IsTerrain g) where
 
     pub next_is : (e : ℕ) → is_among e (ridden (step g s).riders) ≡ true → (d : ℕ)
         × (is_among d (ridden s.riders) ≡ true) × IsNext s.stood (ridden s.riders) d e
-    next_is e m =
-        let n = next_from g s.stood now s.riders e m in
-        (n.0, n.1, is_next s.stood now n.0 e (r.low n.0 n.1) n.2 n.3)
+    next_is e m = let n = next_from g s.stood _ s.riders e m in (n.0, n.1, is_next _ _ _ e (r.low n.0 n.1) n.2 n.3)
 
     -- At a vertex where riders arrive first, two opposite edges are covered or ridden next.
     opposite : (f a b c : ℕ) → Rides f → IsCross g.half (g.half.next f) a b c → IsSoon next c
@@ -165,13 +138,11 @@ module _ (g : Terrain) (t : IsTerrain g) where
     opposite f a b c m x soon =
         let next_low = t.half.next_low f (r.low f m) in
         crossed_at (low_a t.half (g.half.next f) a b c next_low x) (at_a t.half
-        (g.half.next f) a b c next_low x) (rotated g.half t.half (g.half.next f) a b c next_low x) (inl
-        (covered_twin a f (back f a (r.low f m) (sym (ap g.half.twin (t.half.prev_next f)) ∙ x.first)) m)) soon
+        (g.half.next f) a b c next_low x) (rotated g.half t.half (g.half.next f) a b c next_low x) (search rules) soon
 
     facing_too : (f a b c : ℕ) → Rides f → IsCross g.half (g.half.next f) a b c → Rides (g.half.prev b)
         → IsCrossedAt g next (end_of g f)
-    facing_too f a b c m x n = opposite f a b c m x
-        (inl (covered_twin c (g.half.prev b) (back (g.half.prev b) c (r.low (g.half.prev b) n) x.third) n))
+    facing_too f a b c m x n = opposite f a b c m x (search rules)
 
     goes_through : (f a b c : ℕ) → Rides f → s.stood (end_of g f) ≡ false → g.boundary (end_of g f) ≡ false
         → g.singular (end_of g f) ≡ false → IsCross g.half (g.half.next f) a b c → is_among (g.half.prev a) now ≡ false
@@ -194,8 +165,7 @@ module _ (g : Terrain) (t : IsTerrain g) where
     decided f a b c m off inner regular x =
         let next_low = t.half.next_low f (r.low f m) in
         let pa = g.half.prev a in
-        let end_a : end_of g (g.half.prev a) ≡ end_of g f =
-        ap g.half.from (t.half.next_prev a) ∙ at_a t.half (g.half.next f) a b c next_low x in
+        let end_a : end_of g (g.half.prev a) ≡ end_of g f = search rules in
         let turned : IsCross g.half (g.half.next (g.half.prev a)) b c (g.half.next f) =
         rw (t.half.next_prev a) (rotated g.half t.half (g.half.next f) a b c next_low x) in
         elim (cases_Bool (is_among (g.half.prev b) now)) [
@@ -204,8 +174,7 @@ module _ (g : Terrain) (t : IsTerrain g) where
             | inr no_a ↦ goes_through f a b c m off inner regular x no_a no_b
             | inl n ↦ rw (← end_a) (elim (cases_Bool (is_among (g.half.prev c) now)) [
               | inl y ↦ facing_too pa b c (g.half.next f) n turned y
-              | inr no_c ↦ goes_through pa b c (g.half.next f) n (ap s.stood end_a ∙ off) (ap g.boundary end_a ∙ inner)
-                  (ap g.singular end_a ∙ regular) turned no_b no_c
+              | inr no_c ↦ search (rules, goes_through)
             ])
           ]
         ]
@@ -221,23 +190,11 @@ module _ (g : Terrain) (t : IsTerrain g) where
           straight_same d e _ (r.low d m) (r.low e n) a.straight b.straight);
       low = λ e m. (next_is e m).2.low;
       left = λ e m. let n = next_is e m in ap next.stood n.2.at ∙ stands n.0 n.1;
-      alike = λ d e low w.
-          let one_way : (d e : ℕ) → d < g.half.count → g.half.twin d ≡ Some e → (step g s).covered e ≡ true
-          → (step g s).covered d ≡ true = λ d e low w c. elim (why e c) [
-            | inl o ↦ covered_old d (sym (r.alike d e low w) ∙ o)
-            | inr (inl m) ↦ covered_twin d e w m
-            | inr (inr x) ↦ covered_rode d
-                (ap (λ k. is_among k now) (same_Some d x.0 (sym (back d e low w) ∙ x.1)) ∙ x.2)
-          ] in
-          same_test _ _ (one_way d e low w) (one_way e d (t.half.twin_low d e low w) (back d e low w));
+      alike = search rules;
       ends = λ d low c. elim (why d c) [
         | inl o ↦ let e = r.ends d low o in (known_then _ e.0, known_then _ e.1)
         | inr (inl m) ↦ (inl (stood_old _ (r.left d m)), inl (stands d m))
-        | inr (inr w) ↦
-            let ends = t.half.twin_ends d w.0 low w.1 in (
-              inl (ap next.stood (sym ends.1) ∙ stands w.0 w.2),
-              inl (ap next.stood (sym ends.0) ∙ stood_old _ (r.left w.0 w.2)),
-            )
+        | inr (inr w) ↦ search (rules, stands)
       ];
       kept = λ d k. inl (soon_then d (r.kept d k));
       trails = λ e m.
@@ -293,8 +250,7 @@ module _ (g : Terrain) (t : IsTerrain g) (first : State) (d : ℕ) (low : d < g.
   ]
 
   pub shut_beside : (e : ℕ) → g.half.twin d ≡ Some e → IsShut g first (g.half.next e)
-  shut_beside e w = shut_at (g.half.next e) (t.half.next_low e (t.half.twin_low d e low w))
-      (t.half.twin_ends d e low w).1
+  shut_beside e w = shut_at _ (t.half.next_low e (t.half.twin_low d e low w)) (t.half.twin_ends d e low w).1
 
 module _ (g : Terrain) (t : IsTerrain g) (starts : List ℕ) (begin : IsStarted g starts) where
   rides_next : (d : ℕ) → is_among d starts ≡ true → is_among d (ridden (map begun starts)) ≡ true

@@ -1,16 +1,15 @@
 -- The cut that is chosen: there is one, it is full, and it keeps lines.
 use Rattle.std.proofs.Common.{rules, ◌≡◌, Bool, false, List, replicate, Some, None, refl, sym, ◌∙◌}
-use Rattle.std.proofs.lemmas.List.{ext_get_or, length-replicate}
-use Rattle.def_mesh.specs.{Darts.darts, Faces.Faces, Manifold.IsManifold}
 use Rattle.def_feature.specs.{Beside.IsCutBeside, Marked.marked_cut, Marks.AreMarks}
 use Rattle.def_patches.specs.Laws.{ChosenCutLaw, LineArcLaw, LinesLaw, NoMarksLaw, OneArcLaw, OneCutLaw}
-use Rattle.def_patches.specs.declared.Patches.TheVariants.{Traced, Merged, Conforming}
 use Rattle.def_patches.specs.{Chosen.IsKeepingCut, Chosen.IsPlainCut, declared.Patches.Patches}
+use Rattle.def_patches.specs.declared.Patches.TheVariants.{Traced, Merged, Conforming}
 use Rattle.feature_laws.proofs.{Arcs.beside_arc_law, Arcs.traced_beside, Conforming.conforming_law, Exists.a_conforming}
-use Rattle.feature_laws.proofs.{Exists.one_conforming, First.are_none, First.off, First.same_cut}
-use Rattle.merge_laws.proofs.{Beside.merged_none, Beside.none_merged, Beside.merged_beside_law, Beside.one_merged_law}
-use Rattle.merge_laws.proofs.{Exists.merged_law}
-use Rattle.{def_merge.specs.Beside.may_beside, patch_laws.proofs.OneArc.one_arc}
+use Rattle.feature_laws.proofs.First.{are_none, off, same_cut}
+use Rattle.merge_laws.proofs.Beside.{merged_none, none_merged, merged_beside_law, one_merged_law}
+use Rattle.{std.proofs.lemmas.List.ext_get_or, std.proofs.lemmas.List.length-replicate, def_mesh.specs.Darts.darts}
+use Rattle.{def_mesh.specs.Faces.Faces, def_mesh.specs.Manifold.IsManifold, feature_laws.proofs.Exists.one_conforming}
+use Rattle.{merge_laws.proofs.Exists.merged_law, def_merge.specs.Beside.may_beside, patch_laws.proofs.OneArc.one_arc}
 
 -- Without marks the cut is the one that keeps no marked edge.
 module _ (faces : Faces) where

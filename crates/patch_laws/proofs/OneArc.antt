@@ -1,11 +1,10 @@
 -- Each side of each patch of the conforming cut is one arc: inside it lies no node.
 use Rattle.std.proofs.Common.{rules, ◌≡◌, ◌⊎◌, ℕ, zero, suc, ◌+◌, ◌-◌, ◌<◌, ◌≤◌, Bool, true, false, not, eqb, List, []}
 use Rattle.std.proofs.Common.{◌∷◌, length, Some, is_some, sym, ◌∙◌, ap, subst, refl, inl, inr, arith}
-use Rattle.std.proofs.lemmas.Bool.{cases_eq, cases_lt, or_left, and_parts, false≢true, false_from_ne_true}
+use Rattle.std.proofs.lemmas.Bool.{cases_eq, cases_lt, and_parts, false≢true, false_from_ne_true}
 use Rattle.def_mesh.specs.{Darts.darts, Darts.from_of, Darts.next_of, Darts.prev_of, Darts.twin_of, HalfEdges.HalfEdges}
 use Rattle.def_mesh.specs.{HalfEdges.IsQuadManifold, HalfEdges.half_edges, Faces.Faces, Kinds.is_inner}
-use Rattle.def_mesh.specs.{Kinds.is_regular, Components.seeds, Components.is_start, Manifold.IsManifold}
-use Rattle.def_mesh.specs.{Vertices.fan_of, Vertices.faces_at}
+use Rattle.def_mesh.specs.{Kinds.is_regular, Manifold.IsManifold, Vertices.fan_of, Vertices.faces_at}
 use Rattle.def_cut.specs.{Cuts.HasCross, Cuts.IsCut, FullCut.is_on, Grids.patch_at, Motion.is_among, Steps.easts}
 use Rattle.def_layout.specs.{Arcs.IsArc, Arcs.path_at, Arcs.long_at, Borders.side_size, Borders.border_dart}
 use Rattle.def_layout.specs.{FaceLayouts.IsCutLayout, Gluings.Way, Lengths.reach, Nodes.is_lone_before}
@@ -78,9 +77,6 @@ module _ (faces : Faces) (m : IsManifold faces) (marks : List Bool) (marked : Ar
     at : from_of faces x ≡ v
     at = ap (from_of faces) (sym (laws.next_prev x)) ∙ (laws.twin_ends p (prev_of x) lp over).1
 
-    starts : is_start faces (seeds faces) p ≡ true → ⊥
-    starts y = cc (off, (conform.lined p lp).1 (inr (inl (0, or_left _ _ (or_left _ _ y)))))
-
     two : (p ≡ x → ⊥)
     two e = no_fix laws p lp (laws.twin_twin p (prev_of p) lp (cc (over, e)))
 
@@ -124,10 +120,8 @@ module _ (faces : Faces) (m : IsManifold faces) (marks : List Bool) (marked : Ar
             lb = low_b laws p a b c lp k
 
             off_b : is_on cut b ≡ false
-            off_b =
-                false_from_ne_true _ (λ y. false≢true
-                (sym off ∙ straight_law faces marks cut m marked conform b c p a lb
-                (rotated mesh laws a b c p la (rotated mesh laws p a b c lp k)) y))
+            off_b = false_from_ne_true _ (λ y. false≢true (sym off ∙ straight_law faces marks cut m marked conform b c p
+                a lb (rotated mesh laws a b c p la (rotated mesh laws p a b c lp k)) y))
 
             each : (d : ℕ) → (d < darts faces) × (from_of faces d ≡ v) × (is_on cut d ≡ true) → (d ≡ a) ⊎ (d ≡ c)
             each d (ld, e, on) = elim (one_of_four laws p a b c lp k d (record { low = ld; at = e })) [
@@ -243,9 +237,8 @@ module _ (faces : Faces) (m : IsManifold faces) (marks : List Bool) (marked : Ar
             none,
             (use_run mesh laws (is_on cut) full (is_node faces cut) (are_nodes faces laws cut full) (path_at
                 layout.arcs ((gluing_of layout).use_at patch side k).arc).darts ((gluing_of layout).use_at patch side
-                k).forward
-                (border_dart (half_edges faces) (patch_at layout.patches patch) side (reach (gluing_of layout)
-                (long_at layout.arcs) patch side k + 0)) (arc_there k l) (lay.used (record {
+                k).forward (border_dart (half_edges faces) (patch_at layout.patches patch) side
+                (reach (gluing_of layout) (long_at layout.arcs) patch side k + 0)) (arc_there k l) (lay.used (record {
                   patch = patch;
                   side = side;
                   at = k;

@@ -1,30 +1,26 @@
 -- The laws of the motion on a mesh.
 use Rattle.std.proofs.Common.{rules, ◌≡◌, ℕ, zero, suc, ◌<◌, Bool, false, length, get_or, sym, ◌∙◌, inl, inr, arith}
-use Rattle.std.proofs.{lemmas.List.length-map, lemmas.List.FromFn.length-range_with_len}
-use Rattle.std.proofs.{lemmas.List.FromFn.get_or-map-range_with_len, lemmas.Bool.not-true}
-use Rattle.def_mesh.specs.{Darts.darts, Darts.all_darts, Darts.from_of, Darts.to_of, Vertices.vertex_count}
-use Rattle.def_mesh.specs.{Components.start_darts, HalfEdges.HalfEdges, HalfEdges.IsQuadManifold, HalfEdges.half_edges}
-use Rattle.def_cut.specs.{Cuts.Links, Cuts.IsCut, FullCut.is_on, Motion.ridden, Motion.is_among, Motion.start}
-use Rattle.def_cut.specs.{Motion.after_steps, Traced.terrain_of, Traced.last_state, Traced.is_traced}
-use Rattle.def_cut.specs.{Traced.traced_marks, MotionLaws.IsKnown, MotionLaws.StateLaw, MotionLaws.TracedGraphLaw}
-use Rattle.def_cut.specs.{MotionLaws.OrderLaw}
-use Rattle.mesh_laws.proofs.{Chains.manifold_law, Flood.all_below}
-use Rattle.motion_laws.proofs.{Marks.among_at, Marks.places_apart, Bits.IsKnown as Known, Steps.first, Order.bounded}
-use Rattle.motion_laws.proofs.{Order.one_end, Order.possible, Order.reached_at, Order.within, Onward.end_reached}
-use Rattle.motion_laws.proofs.{Onward.full_cut, Onward.nobody_runs}
+use Rattle.std.proofs.lemmas.List.FromFn.{length-range_with_len, get_or-map-range_with_len}
+use Rattle.def_mesh.specs.Darts.{darts, all_darts, from_of, to_of}
+use Rattle.def_mesh.specs.{Vertices.vertex_count, Components.start_darts, HalfEdges.HalfEdges, HalfEdges.IsQuadManifold}
+use Rattle.def_cut.specs.Motion.{ridden, is_among, start, after_steps}
+use Rattle.def_cut.specs.Traced.{terrain_of, last_state, is_traced, traced_marks}
+use Rattle.def_cut.specs.MotionLaws.{IsKnown, StateLaw, TracedGraphLaw, OrderLaw}
+use Rattle.motion_laws.proofs.Order.{one_end, possible, reached_at, within}
+use Rattle.motion_laws.proofs.Onward.{end_reached, full_cut, nobody_runs}
 use Rattle.site_laws.proofs.Sites.{course, started, terrain}
-use Rattle.{cut_laws.proofs.Classes.links_low, face_laws.proofs.FullCuts.full_cut_law}
+use Rattle.{std.proofs.lemmas.List.length-map, def_cut.specs.Cuts.Links, def_cut.specs.Cuts.IsCut}
+use Rattle.{def_cut.specs.FullCut.is_on, mesh_laws.proofs.Flood.all_below, cut_laws.proofs.Classes.links_low}
+use Rattle.face_laws.proofs.FullCuts.{full_cut_law}
+use Rattle.motion_laws.proofs.{Marks.among_at, Marks.places_apart, Bits.IsKnown as Known, Steps.first, Order.bounded}
 
 pub state_law : StateLaw
 state_law faces m n =
     let r = reached_at (course faces m) n in
     let s = after_steps (terrain_of faces) (start_darts faces) n in
-    let by_known : (v : ℕ) → Known (terrain_of faces) s v → IsKnown faces s v =
-    λ v k. elim k [ inl y ↦ inl y | inr b ↦ inr (not-true _ b) ] in
+    let by_known : (v : ℕ) → Known (terrain_of faces) s v → IsKnown faces s v = search rules in
     record {
-      differ = λ i j less l e.
-          let same = places_apart (ridden s.riders) r.apart i j (omega arith) l e in
-          absurd (omega arith);
+      differ = search (rules, places_apart);
       left = λ i l. r.left (get_or (ridden s.riders) i 0) (among_at (ridden s.riders) i l);
       known = λ d l c. let e = r.ends d l c in (by_known (from_of faces d) e.0, by_known (to_of faces d) e.1);
     }
@@ -42,22 +38,12 @@ module _ (mesh : HalfEdges) (laws : IsQuadManifold mesh) (cut other : ℕ → Bo
     boundary = λ d l w. same d l ∙ c.boundary d l w;
     gaps = λ d l on. elim (c.gaps d l (sym (same d l) ∙ on)) [
       | inl a ↦ inl (same (mesh.next d) (laws.next_low d l) ∙ a)
-      | inr w ↦
-          let low = laws.next_low w.0 (laws.twin_low (mesh.next d) w.0 (laws.next_low d l) w.1) in
-          inr (w.0, w.1, same (mesh.next w.0) low ∙ w.2)
+      | inr w ↦ search rules
     ];
-    crossed = λ d l u. c.crossed d l (λ e le at. (
-      sym (same e le) ∙ (u e le at).0,
-      sym (same (mesh.prev e) (laws.prev_low e le)) ∙ (u e le at).1,
-    ));
+    crossed = search rules;
     corner = λ d l.
         let k = c.corner d l in
-        let e = k.3 in (
-          k.0,
-          k.1,
-          same_links d k.0 k.1 l k.2,
-          (e.0, same k.0 e.0 ∙ e.1, same (mesh.prev k.0) (laws.prev_low k.0 e.0) ∙ e.2),
-        );
+        (k.0, k.1, same_links d k.0 k.1 l k.2, search rules);
   }
 
 pub graph_law : TracedGraphLaw
@@ -68,17 +54,13 @@ graph_law faces m =
     let s = start g (start_darts faces) in
     let begin = first g t (start_darts faces) (started faces m) in
     let none = nobody_runs g t begins s begin (vertex_count faces) (all_below faces) in
-    let cut = full_cut g t begins s begin (last_state faces)
-    (end_reached g t begins s begin (vertex_count faces) (all_below faces)) none in
+    let cut = full_cut g t begins s begin (last_state faces) (search (rules, end_reached, all_below)) none in
     let long : length (traced_marks faces) ≡ darts faces =
     length-map (all_darts faces) (is_traced faces) ∙ length-range_with_len 0 (darts faces) in
     let same : (d : ℕ) → d < darts faces → is_on (traced_marks faces) d ≡ is_traced faces d =
     λ d l. get_or-map-range_with_len (is_traced faces) 0 (darts faces) d d false l (omega arith) in (
       none,
-      (full_cut_law faces (traced_marks faces) m).1 (
-        long,
-        same_cut (half_edges faces) (manifold_law faces m) (is_traced faces) (is_on (traced_marks faces)) same cut,
-      ),
+      (full_cut_law faces (traced_marks faces) m).1 (long, search (rules, same_cut)),
     )
 
 pub order_law : OrderLaw

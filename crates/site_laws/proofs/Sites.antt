@@ -1,11 +1,11 @@
 -- A manifold list of faces is a terrain, and its start darts are starts.
 use Rattle.std.proofs.Common.{rules, ◌≡◌, ◌⊎◌, ℕ, ◌<◌, true, false, not, eqb, ◌&&◌, ◌||◌, Some, None, is_some, sym, ap}
-use Rattle.std.proofs.Common.{◌∙◌, refl, inl, inr, arith}
-use Rattle.std.proofs.lemmas.Bool.{lt-ltb, or_left, or_right, or_cases, and_from, and_parts, not_from_false}
+use Rattle.std.proofs.Common.{◌∙◌, refl, inl, inr}
+use Rattle.std.proofs.lemmas.Bool.{or_left, or_right, or_cases, and_from, and_parts, not_from_false}
 use Rattle.std.proofs.lemmas.Bool.{false_from_ne_true, not-false, not-true}
 use Rattle.{std.proofs.lemmas.Option.none-some, mesh_laws.proofs.Chains.manifold_law, mesh_laws.proofs.Flood.all_below}
 use Rattle.def_mesh.specs.Darts.{darts, all_darts, from_of, to_of, next_of, prev_of, twin_of}
-use Rattle.def_mesh.specs.{Faces.Faces, Manifold.IsManifold, Vertices.faces_at, Vertices.vertex_count, Kinds.is_inner}
+use Rattle.def_mesh.specs.{Faces.Faces, Manifold.IsManifold, Vertices.vertex_count, Kinds.is_inner}
 use Rattle.def_mesh.specs.{Kinds.is_regular, Kinds.is_singular, Kinds.is_reflex, Components.seeds, Components.is_start}
 use Rattle.def_mesh.specs.{Components.start_darts, HalfEdges.IsQuadManifold, HalfEdges.half_edges}
 use Rattle.face_laws.proofs.FullCuts.{inner_twin, regular_cross}
@@ -34,8 +34,7 @@ module _ (faces : Faces) (m : IsManifold faces) where
   terrain = record {
     half = laws;
     edged = λ d l w. (at_boundary d (from_of faces d) l w (inl refl), at_boundary d (to_of faces d) l w (inr refl));
-    crossed = λ d l inner regular. regular_cross faces laws d l (not-false _ inner)
-        (not-false _ (sing d (not-false (is_inner faces (from_of faces d)) inner) regular));
+    crossed = λ d l inner regular. regular_cross faces laws d l (not-false _ inner) (search rules);
     rimmed = λ d l out. rim (from_of faces d) (not-true _ out);
   }
     where
@@ -64,9 +63,7 @@ module _ (faces : Faces) (m : IsManifold faces) where
       | inl v ↦ inr (inr (t, w, v))
       | inr (u, v) ↦
           let many = three_faces faces laws (next_of d) t u (laws.next_low d low) w v out in
-          inl (start_in faces (next_of d) (laws.next_low d low) (or_right (is_singular faces (to_of faces d)) _
-          (and_from _ _ (ap is_some w) (or_left _ _ (and_from _ _ (not_from_false _ out)
-          (lt-ltb 2 (faces_at faces (to_of faces d)) (omega arith)))))))
+          inl (start_in faces (next_of d) (laws.next_low d low) (search rules))
     ]
   ]
 

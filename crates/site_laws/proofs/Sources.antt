@@ -1,27 +1,25 @@
 -- The darts round a vertex, and that each component of a manifold list has a source: a start dart, or a vertex with one
 -- face.
-use Rattle.std.proofs.Common.{rules, ◌≡◌, ℕ, zero, suc, ◌*◌, ◌/◌, ◌<◌, ◌≤◌, Bool, true, false, cond, eqb, ◌&&◌, ◌||◌}
-use Rattle.std.proofs.Common.{List, [], ◌∷◌, length, is_some, sym, subst, ap, ◌∙◌, refl, inl, inr, arith, ◌≢◌, ◌⊎◌}
-use Rattle.std.proofs.Common.{get_or, Some, None}
-use Rattle.std.proofs.lemmas.Bool.{cases_Bool, cases_lt, eq-eqb, eqb-false, lt-ltb, or_left, or_right, and_from}
-use Rattle.std.proofs.lemmas.Bool.{not_from_false, false≢true, cases_eq}
-use Rattle.std.{proofs.lemmas.Option.same_Some, specs.List.list_any, specs.List.range_with_len}
+use Rattle.std.proofs.Common.{rules, ◌≡◌, ℕ, zero, suc, ◌*◌, ◌/◌, ◌<◌, ◌≤◌, Bool, true, false, eqb, ◌&&◌, ◌||◌, List}
+use Rattle.std.proofs.Common.{[], ◌∷◌, length, is_some, sym, subst, ap, ◌∙◌, refl, inl, inr, arith, ◌≢◌, ◌⊎◌, get_or}
+use Rattle.std.proofs.{Common.Some, Common.None, lemmas.Bool.false≢true, lemmas.Bool.cases_eq, lemmas.Option.same_Some}
+use Rattle.std.proofs.lemmas.Bool.{cases_Bool, cases_lt, eq-eqb, or_left, or_right, and_from, not_from_false}
 use Rattle.def_mesh.specs.Darts.{darts, all_darts, from_of, is_reverse, next_of, prev_of, twin_of}
 use Rattle.def_mesh.specs.Components.{share_edge, is_marked, component_of, least_face, least_faces, vertices_in}
 use Rattle.def_mesh.specs.Components.{is_ring, is_first, is_seed_in, seeds, is_start, start_darts}
-use Rattle.def_mesh.specs.{Faces.Faces, Faces.all_faces, Manifold.IsManifold, Vertices.faces_at, Vertices.vertex_count}
-use Rattle.def_mesh.specs.{Vertices.all_vertices, Vertices.fan_of, Kinds.is_inner, Kinds.is_regular, Kinds.is_singular}
-use Rattle.def_mesh.specs.{Kinds.is_reflex, HalfEdges.HalfEdges, HalfEdges.IsQuadManifold, HalfEdges.half_edges}
-use Rattle.def_mesh.specs.{HalfEdges.Turns}
+use Rattle.def_mesh.specs.Vertices.{faces_at, vertex_count, all_vertices, fan_of}
+use Rattle.def_mesh.specs.Kinds.{is_inner, is_regular, is_singular, is_reflex}
+use Rattle.def_mesh.specs.HalfEdges.{HalfEdges, IsQuadManifold, half_edges, Turns}
 use Rattle.def_cut.specs.{Motion.is_among, Steps.spin, Trails.Joins, Trails.IsSource}
-use Rattle.list_laws.proofs.Filters.{any_in_range, range_any}
 use Rattle.mesh_laws.proofs.Flood.{all_below, Shares, sound, own_mark, same_component, least_low, least_marked}
-use Rattle.mesh_laws.proofs.Flood.{least_again}
 use Rattle.mesh_laws.proofs.Chains.{manifold_law, is_fan, reverse_twin, twin_found}
 use Rattle.face_laws.proofs.FullCuts.{same_face, has_fan, inner_from}
 use Rattle.motion_laws.proofs.Among.{all_at, among_here, among_range, any_at, cases_Option, from_filter, in_filter}
-use Rattle.motion_laws.proofs.Among.{not_all, range_among}
-use Rattle.cut_laws.proofs.{Folds.prev_three, Folds.turn_from, Folds.turn_low, Crosses.Leaves, Crosses.no_fix}
+use Rattle.cut_laws.proofs.Folds.{prev_three, turn_from, turn_low}
+use Rattle.{std.specs.List.list_any, std.specs.List.range_with_len, def_mesh.specs.Faces.Faces}
+use Rattle.{def_mesh.specs.Manifold.IsManifold, list_laws.proofs.Filters.any_in_range}
+use Rattle.{list_laws.proofs.Filters.range_any, mesh_laws.proofs.Flood.least_again, motion_laws.proofs.Among.not_all}
+use Rattle.{motion_laws.proofs.Among.range_among, cut_laws.proofs.Crosses.Leaves, cut_laws.proofs.Crosses.no_fix}
 
 -- Chains of joined darts, one after another, and back.
 pub joins_join : (m : HalfEdges) (d e f i j : ℕ) → Joins m d e i → Joins m e f j → (k : ℕ) × Joins m d f k
@@ -83,20 +81,14 @@ module _ (faces : Faces) (laws : IsQuadManifold (half_edges faces)) where
   -- A dart over the twin of d at the vertex that d leaves.
   over : (d t : ℕ) → d < darts faces → twin_of faces d ≡ Some t → (next_of t < darts faces)
       × (from_of faces (next_of t) ≡ from_of faces d) × (next_of t ≢ d)
-  over d t l w = (
-    laws.next_low t (laws.twin_low d t l w),
-    (laws.twin_ends d t l w).1,
-    λ e. no_fix laws d l (ap (twin_of faces) (sym (ap prev_of e) ∙ laws.prev_next t)
-        ∙ laws.twin_twin d t l w),
-  )
+  over d t l w = (laws.next_low t (laws.twin_low d t l w), (laws.twin_ends d t l w).1, search rules)
 
   -- With one face at a vertex, both its edges there have one dart.
   pub lone_face : (d : ℕ) → d < darts faces → faces_at faces (from_of faces d) ≤ 1 → (twin_of faces d ≡ None)
       × (twin_of faces (prev_of d) ≡ None)
   lone_face d l few = (
-    elim (cases_Option (twin_of faces d))
-        [ inl w ↦ w | inr (t, w) ↦ let o = over d t l w in absurd (two (next_of t) o.0 o.1 o.2) ],
-    elim (cases_Option (twin_of faces (prev_of d))) [
+    elim (cases_Option _) [ inl w ↦ w | inr (t, w) ↦ let o = over d t l w in absurd (two (next_of t) o.0 o.1 o.2) ],
+    elim (cases_Option _) [
       | inl w ↦ w
       | inr (y, w) ↦ absurd (two y (turn_low laws d y l w)
           (turn_from laws d y l w) (λ e. no_fix laws d l (w ∙ ap Some e)))
@@ -105,7 +97,7 @@ module _ (faces : Faces) (laws : IsQuadManifold (half_edges faces)) where
     where
       two : (x : ℕ) → x < darts faces → from_of faces x ≡ from_of faces d → x ≢ d → ⊥
       two x lx at ne =
-          let many = (has_fan faces (from_of faces d)).least 2 (pair d x) (record { each = each; apart = apart }) in
+          let many = (has_fan _ _).least 2 (pair d x) (record { each = each; apart = apart }) in
           omega (arith, many, few)
         where
           each : (j : ℕ) → j < 2 → Leaves (half_edges faces) (from_of faces d) (pair d x j)
@@ -129,10 +121,7 @@ module _ (faces : Faces) (laws : IsQuadManifold (half_edges faces)) where
       λ k h ne.
       let t = laws.one_fan d (at k 0) l (fan.dart k h) (sym (fan.leaves k h)) in
       twin_there (half_edges faces) laws d (at k 0) t.0 l ne t.1 in
-      elim (cases_eq d (at 0 0)) [
-        | inr ne ↦ to 0 (omega arith) ne
-        | inl e ↦ to 1 (omega arith) (λ s. absurd (omega (arith, e, s, fan.increasing 0 1 (omega arith) (omega arith))))
-      ]
+      elim (cases_eq d (at 0 0)) [ inr ne ↦ to 0 (omega arith) ne | inl e ↦ to 1 (omega arith) (search rules) ]
 
   -- Three darts that turn into each other one after another.
   module _ (x t u : ℕ) (low : x < darts faces) (first : twin_of faces x ≡ Some t)
@@ -157,8 +146,7 @@ module _ (faces : Faces) (laws : IsQuadManifold (half_edges faces)) where
         turn_is : (e p q y : ℕ) → twin_of faces (prev_of e) ≡ Some p → twin_of faces e ≡ Some q → next_of q ≡ p
             → y < darts faces → (twin_of faces (prev_of e) ≡ Some y) ⊎ (twin_of faces (prev_of y) ≡ Some e) → y ≡ p
         turn_is e p q y before over same l (inl w) = same_Some y p (sym w ∙ before)
-        turn_is e p q y before over same l (inr w) = sym (laws.next_prev y) ∙ (ap next_of (same_Some (prev_of y) q
-            (sym (laws.twin_twin (prev_of y) e (laws.prev_low y l) w) ∙ over)) ∙ same)
+        turn_is e p q y before over same l (inr w) = sym (laws.next_prev y) ∙ (search rules)
 
         all : (y n : ℕ) → Turns (half_edges faces) x y n → (y ≡ x) ⊎ (y ≡ next_of t)
         all y zero s = inl (sym s)
@@ -181,8 +169,7 @@ module _ (faces : Faces) (laws : IsQuadManifold (half_edges faces)) where
 
     -- So at the boundary there are three.
     pub three_faces : is_inner faces (from_of faces x) ≡ false → 3 ≤ faces_at faces (from_of faces x)
-    three_faces off = (has_fan faces (from_of faces x)).least 3 (triple x (next_of t) (next_of u))
-        (record { each = each; apart = apart })
+    three_faces off = (has_fan _ _).least 3 (triple x (next_of t) (next_of u)) (record { each = each; apart = apart })
       where
         ne : next_of u ≢ x
         ne e = false≢true (sym off ∙ round e)
@@ -304,30 +291,19 @@ module _ (faces : Faces) (m : IsManifold faces) where
     -- A source that is joined to a dart of the component.
     from_there : (e : ℕ) → e < darts faces → is_marked marks (e / 4) ≡ true → HasSource e → HasSource d
     from_there e le k (x, n, j, s) =
-        let p = sound faces (d / 4) (length faces) (e / 4) f_low (omega arith)
-        (ap (λ (b : List Bool). is_marked b (e / 4)) (sym marks_are) ∙ k) in
+        let p = sound faces (d / 4) (length faces) (e / 4) f_low (omega arith) (search (rules, marks_are)) in
         let a = joins_shares (d / 4) (e / 4) d e p.0 p.1 refl refl in
-        let b = joins_join mesh d e x a.0 n a.1 j in
-        (x, b.0, b.1, s)
+        search (rules, joins_join)
 
     -- An irregular vertex.
     irregular : (e : ℕ) → e < darts faces → is_regular faces (from_of faces e) ≡ false → HasSource e
     irregular e le off = elim (cases_Bool (is_inner faces (from_of faces e))) [
       | inl inner ↦ (e, 0, refl, inl (start_in faces e le (or_left _ _ (and_from _ _ inner (not_from_false _ off)))))
-      | inr out ↦
-          let not_two = eqb-false (faces_at faces (from_of faces e)) 2
-          (ap (λ b. eqb (faces_at faces (from_of faces e)) (cond b 4 2)) (sym out) ∙ off) in
-          elim (cases_lt (faces_at faces (from_of faces e)) 2) [
-            | inl few ↦ (e, 0, refl, inr (lone_face faces laws e le (omega arith)))
-            | inr many ↦ source_at e le many (or_left _ _ (and_from _ _ (not_from_false _ out)
-                (lt-ltb 2 (faces_at faces (from_of faces e)) (omega (arith, not_two)))))
-          ]
+      | inr out ↦ elim (cases_lt (faces_at faces (from_of faces e)) 2) [
+        | inl few ↦ (e, 0, refl, inr (lone_face faces laws e le (omega arith)))
+        | inr many ↦ search (rules, source_at)
+      ]
     ]
-
-    -- A regular vertex that is a seed.
-    seeded : (e : ℕ) → e < darts faces → is_regular faces (from_of faces e) ≡ true
-        → is_among (from_of faces e) (seeds faces) ≡ true → HasSource e
-    seeded e le regular k = search (rules, source_at)
 
     ring : is_ring faces marks ≡ true → HasSource d
     ring all = at (vertices_in faces marks) refl
@@ -337,18 +313,16 @@ module _ (faces : Faces) (m : IsManifold faces) where
         at (v ∷ us) is =
             let in_vs : is_among v (vertices_in faces marks) ≡ true = ap (is_among v) is ∙ among_here v v us refl in
             let seed : is_seed_in faces v marks ≡ true = and_from _ _ (ap (is_first v) is ∙ eq-eqb v v refl) all in
-            let is_listed : is_among least (least_faces faces) ≡ true = in_filter (λ h. eqb (least_face faces h) h)
-            least (all_faces faces) (among_range 0 (length faces) least (omega arith)
-            (omega (arith, least_low faces (d / 4) f_low))) (eq-eqb _ _ (least_again faces (d / 4) f_low)) in
-            let regular = all_at (is_regular faces) v (vertices_in faces marks) all in_vs in
+            let is_listed : is_among least (least_faces faces) ≡ true = in_filter _
+            least _ (among_range 0 (length faces) _ (omega arith)
+            (omega (arith, least_low faces _ f_low))) (eq-eqb _ _ (least_again faces _ f_low)) in
+            let regular = all_at (is_regular faces) v _ all in_vs in
             let (e, le, at, k) = at_vertex v in_vs in
             let low_v : v < vertex_count faces = omega (arith, at, all_below faces e le) in
-            let listed : is_among v (seeds faces) ≡ true =
-            in_filter (λ u. list_any (λ h. is_seed_in faces u (component_of faces h)) (least_faces faces)) v
-            (all_vertices faces) (among_range 0 (vertex_count faces) v (omega arith) (omega arith))
-            (any_at (λ h. is_seed_in faces v (component_of faces h)) least (least_faces faces) is_listed seed) in
-            from_there e le k (seeded e le (ap (is_regular faces) at ∙ regular)
-            (ap (λ u. is_among u (seeds faces)) at ∙ listed))
+            let listed : is_among v (seeds faces) ≡ true = in_filter _ v (all_vertices faces)
+            (among_range 0 _ v (omega arith) (omega arith)) (any_at (λ h. is_seed_in faces v (component_of faces h)) _
+            (least_faces faces) is_listed seed) in
+            from_there e le k (search (rules, source_at))
 
     pub found : (x : ℕ) × (n : ℕ) × Joins (half_edges faces) d x n × IsSource (half_edges faces) start x
     found = elim (cases_Bool (is_ring faces marks)) [
