@@ -1,15 +1,14 @@
 -- The text of a finished remesh behind that of its mesh is a checked pair.
 use Rattle.std.proofs.Common.{rules, ◌≡◌, ◌<◌, ◌+◌, ◌-◌, ℕ, Bool, true, false, List, [], ◌∷◌, ◌++◌, length, map, take}
-use Rattle.std.proofs.Common.{drop, get_or, sym, ◌∙◌, ap, refl, arith, length-append, length-drop, inl, inr, not}
-use Rattle.std.proofs.lemmas.Bool.{and_from, cases_Bool, not-true, not_from_false}
+use Rattle.std.proofs.Common.{drop, get_or, sym, ◌∙◌, ap, refl, arith, length-append, inl, inr, not}
 use Rattle.std.proofs.{Math.Seq.take-append_seam, lemmas.Grind.get_or_after_one, lemmas.List.get_or-append-add}
-use Rattle.std.specs.{List.filter, List.list_all}
-use Rattle.def_certtext.specs.{HeadLine.begins_head, HeadLine.head_line, HeadLine.IsLastLine, CertLines.line_text}
-use Rattle.def_certtext.specs.{Reading.is_hash_line, Reading.TellHow, Settings.AreInRange, declared.CertLine.CertLine}
+use Rattle.std.proofs.lemmas.Bool.{and_from, cases_Bool, not-true, not_from_false}
+use Rattle.def_certtext.specs.HeadLine.{begins_head, head_line, IsLastLine}
+use Rattle.def_certtext.specs.{CertLines.line_text, Reading.is_hash_line, Reading.TellHow, Settings.AreInRange}
 use Rattle.def_remesh.specs.{TextLaws.IsSolid, TextLaws.made_by, Certified.IsShown, ReadAgain.ends_line}
-use Rattle.def_remesh.specs.{Tasks.remesh_task}
-use Rattle.def_text.specs.{FaceSet.FaceSet, Text.text_soup}
 use Rattle.remesh_laws.proofs.{Tails.lines_append, Tails.tail_append, ReadAgain.told_law}
+use Rattle.{std.specs.List.filter, std.specs.List.list_all, def_certtext.specs.declared.CertLine.CertLine}
+use Rattle.{def_remesh.specs.Tasks.remesh_task, def_text.specs.FaceSet.FaceSet, def_text.specs.Text.text_soup}
 use Rattle.{qm_obj.proofs.TailLemmas.passes_at, def_flow.specs.declared.net.Settings.Settings, def_io.specs.Bytes.Bytes}
 use Rattle.{def_io.specs.Bytes.Lines, def_io.specs.Lines.lines_of, def_recheck.specs.Accepting.AcceptsLaw}
 
@@ -19,18 +18,13 @@ pub record IsHeadTest (begins_so : Bytes → Bool) : Type 0 where
   pub cert : (line : CertLine) → begins_so (line_text line) ≡ false
   pub plain : (line : Bytes) → is_hash_line line ≡ false → begins_so line ≡ false
 
--- No line without a mark begins as a head line.
-head_test : IsHeadTest begins_head
-head_test = search rules
-
 -- Where the marked lines are those of a certificate, none passes the test.
 none_begins : (begins_so : Bytes → Bool) → IsHeadTest begins_so → (behind : Lines) (said : List CertLine)
     → filter is_hash_line behind ≡ map line_text said → list_all (λ line. not (begins_so line)) behind ≡ true
 none_begins begins_so test [] said texts = refl
 none_begins begins_so test (line ∷ behind) [] texts = elim (cases_Bool (is_hash_line line)) [
   | inl on ↦ cc (rw on at texts)
-  | inr off ↦ and_from _ _ (not_from_false _ (test.plain line off))
-      (none_begins begins_so test behind [] (rw off at texts))
+  | inr off ↦ search (rules, none_begins begins_so test behind [] (rw off at texts))
 ]
 none_begins begins_so test (line ∷ behind) (one ∷ said) texts = elim (cases_Bool (is_hash_line line)) [
   | inl on ↦
@@ -38,8 +32,7 @@ none_begins begins_so test (line ∷ behind) (one ∷ said) texts = elim (cases_
       let first : line ≡ line_text one = cc both in
       let more : filter is_hash_line behind ≡ map line_text said = cc both in
       and_from _ _ (not_from_false _ (ap begins_so first ∙ test.cert one)) (none_begins begins_so test behind said more)
-  | inr off ↦ and_from _ _ (not_from_false _ (test.plain line off))
-      (none_begins begins_so test behind (one ∷ said) (rw off at texts))
+  | inr off ↦ search (rules, none_begins begins_so test behind (one ∷ said) (rw off at texts))
 ]
 
 -- Behind the text of a mesh the text of a remesh begins with its head line, and no line behind that passes such a test.
@@ -51,8 +44,7 @@ module _ (settings : Settings) (auto : Bool) (old text : Bytes) (soup : FaceSet)
 
   tells : TellHow (get_or (lines_of text) 0 []) (drop 1 (lines_of text))
       (made_by settings auto is.finished.certificates)
-  tells = (told_law settings auto soup text range solid is.finished
-      (made_by settings auto is.finished.certificates)).1 refl
+  tells = (told_law settings auto soup text range solid is.finished (made_by _ _ _)).1 refl
 
   place : (n : ℕ) → get_or (lines_of (old ++ text)) (length (lines_of old) + n) [] ≡ get_or (lines_of text) n []
   place n = search (rules, lines, get_or-append-add)
@@ -72,12 +64,10 @@ module _ (settings : Settings) (auto : Bool) (old text : Bytes) (soup : FaceSet)
         let j = k - length (lines_of old) - 1 in
         let behind = drop 1 (lines_of text) in
         let at : length (lines_of old) + (1 + j) ≡ k = omega (arith, high) in
-        let within : j < length behind =
-        omega (arith, ap length lines, length-append (lines_of old) (lines_of text), length-drop 1 (lines_of text)) in
+        let within : j < length behind = search (rules, lines, length-append) in
         ap (λ n. begins_so (get_or (lines_of (old ++ text)) n [])) (sym at)
-        ∙ (ap begins_so (place (1 + j) ∙ sym (get_or_after_one (lines_of text) j []))
-        ∙ not-true _ (passes_at (λ line. not (begins_so line)) behind j []
-        (none_begins begins_so test behind tells.certificates.said tells.certificates.texts) within))
+        ∙ (ap begins_so (place _ ∙ sym (get_or_after_one _ j [])) ∙ not-true _
+        (passes_at _ _ j [] (none_begins _ test _ _ tells.certificates.texts) within))
 
     pub last_line : IsLastLine begins_so (lines_of (old ++ text)) (length (lines_of old))
     last_line = search (rules, begins, lines, length-append, last)
@@ -85,7 +75,7 @@ module _ (settings : Settings) (auto : Bool) (old text : Bytes) (soup : FaceSet)
 pub accepts_law : AcceptsLaw
 accepts_law settings auto old text soup range said ends solid is = record {
   line = length (lines_of old);
-  divided = last_line settings auto old text soup range ends solid is begins_head head_test;
+  divided = last_line settings auto old text soup range ends solid is begins_head (search rules);
   soup = soup;
   said = ap (text_soup 1) (ap (take (length (lines_of old))) (lines_append old text ends)
       ∙ take-append_seam (lines_of old) (lines_of text)) ∙ said;

@@ -13,8 +13,8 @@ use Rattle.def_layout.specs.{Layouts.gluing_of, Layouts.Layout, Lengths.AreLengt
 use Rattle.def_marks.specs.{Lines.marks_in, MarkedText.arc_chain, MarkedText.chain_text, MarkedText.is_marked_arc}
 use Rattle.def_readlaws.specs.ReadChains.{AreHashLines, FinishedMarksLaw, IsChainOf, marked_arc_chains}
 use Rattle.def_remesh.specs.{NewPoints.lengths_in, NewSoup.spaced_soup, ReadAgain.ends_line}
-use Rattle.def_text.specs.{Canonical.canonical_text, FaceSet.FaceSet, Text.numbers_to}
-use Rattle.def_written.specs.{Edges.on_arc, Numbers.vertex_number, Numbers.vertices, Points.arc_point, Points.IsPoint}
+use Rattle.def_text.specs.{Canonical.canonical_text, FaceSet.FaceSet}
+use Rattle.def_written.specs.{Edges.on_arc, Numbers.vertex_number, Points.arc_point, Points.IsPoint}
 use Rattle.remesh_laws.proofs.{Asides.ends_lines, MarkedLines.marked_is, ReadAgain.kept_allowed}
 use Rattle.written_laws.proofs.{Courses.edge_points, Shape.numbers_law}
 use Rattle.read_laws.proofs.{LayoutsRead.finished_layout, LayoutsRead.finished_lengths, MarksAgain.marks_again_law}
@@ -37,8 +37,7 @@ cert_lines rising said may =
     let same = sym (flat_map-map (λ l. l ++ 10 ∷ []) line_text said) in
     record {
       ended = ap ends_line same ∙ ends_lines (map line_text said);
-      hashes = ap (list_all is_hash_line) (ap lines_of same
-          ∙ lines_back (map line_text said) (lines_inside rising said may)) ∙ certs_hash said;
+      hashes = ap (list_all is_hash_line) (ap lines_of same ∙ lines_back _ (lines_inside _ said may)) ∙ certs_hash said;
     }
 
 -- What holds of the image of each element holds along those that pass.
@@ -55,39 +54,33 @@ each_passing P f p (x ∷ xs) each =
 
 module _ (soup : FaceSet) (layout : Layout) (shares : Option (List ℕ)) (new : Lengths) (is : IsSomeLayout layout)
     (len : AreLengths (gluing_of layout) new) where
-  many : length (spaced_soup soup layout shares new).pos ≡ vertices (gluing_of layout) new
-  many = search (rules, length-map-range_with_len)
-
   chain_of : (a : ℕ) → a < length layout.arcs
       → IsChainOf (spaced_soup soup layout shares new) (arc_chain (gluing_of layout) new a)
   chain_of a low =
       let l = gluing_of layout in
       let laid = laid_of layout is in
       let point = arc_point l new a in
-      let some = len.some a low in
       let long = length-map-range_with_len (λ k. vertex_number l new (point k)) 0 (new a + 1) in
       record {
-        long = omega (arith, long, some);
+        long = omega (arith, long);
         low = λ k less.
             let inside : k < new a + 1 = omega (arith, less, long) in
             let there : IsPoint l new (point k) = elim (cases_lt k (new a)) [
               | inl inner ↦ (edge_points l new laid len (on_arc a k) (low, inner)).0
               | inr end ↦
-                  let last : new a - 1 + 1 ≡ k = omega (arith, some, end, inside) in
-                  let edge = edge_points l new laid len (on_arc a (new a - 1)) (low, omega (arith, some)) in
+                  let last : new a - 1 + 1 ≡ k = omega (arith, end, inside) in
+                  let edge = edge_points l new laid len (on_arc a (new a - 1)) (low, omega arith) in
                   subst (λ j. IsPoint l new (point j)) last edge.1
             ] in
-            omega (arith, at_link l new a k inside, (numbers_law l new).low (point k) there, many);
+            omega (arith, at_link l new a k inside, (numbers_law l new).low (point k) there, length-map-range_with_len);
         edges = chain_is l new laid len a low;
       }
 
   chains_of : (marks : List Bool) (k : ℕ) → k < length (marked_arc_chains marks layout new)
       → IsChainOf (spaced_soup soup layout shares new) (get_or (marked_arc_chains marks layout new) k [])
   chains_of marks = each_passing (IsChainOf (spaced_soup soup layout shares new)) (arc_chain (gluing_of layout) new)
-      (is_marked_arc marks layout) (range_with_len 0 (length layout.arcs)) (λ k less.
-      let inside : k < length layout.arcs = omega (arith, less, length-range_with_len 0 (length layout.arcs)) in
-      chain_of (get_or (range_with_len 0 (length layout.arcs)) k 0)
-      (omega (arith, get_or-range_with_len 0 (length layout.arcs) k 0 inside, inside)))
+      (is_marked_arc marks layout) (range_with_len 0 (length layout.arcs))
+      (search (rules, length-range_with_len, chain_of, get_or-range_with_len))
 
 pub finished_marks_law : FinishedMarksLaw
 finished_marks_law command bytes text marks wrote range head between read =
@@ -102,11 +95,7 @@ finished_marks_law command bytes text marks wrote range head between read =
     let certs = text_of said in
     let chains = marked_arc_chains marks layout new in
     let text_is : text ≡ (task.head ++ 10 ∷ []) ++ (canonical_text soup ++ (flat_map chain_text chains ++ certs)) =
-    done.written ∙ ((λ i. task.head ++ 10 ∷ (canonical_text soup ++ ((ap (λ f. f layout new) between
-    ∙ marked_is marks layout new (range_with_len 0 (length layout.arcs))) i ++ certs)))
-    ∙ sym (append_assoc task.head (10 ∷ []) (canonical_text soup ++ (flat_map chain_text chains ++ certs)))) in
+    search (rules, marked_is, append_assoc) in
     ap (λ (t : Bytes). marks_in t soup) text_is ∙ marks_again_law (task.head ++ 10 ∷ []) certs soup chains head
-    (cert_lines task.rising said
-    (kept_allowed task.wish layout task.settings task.rising done.certificates is done.lengths))
-    (soup_in_law text soup read) (ap numbers_to (sym (many wrote.soup layout task.shares new is len)))
-    (chains_of wrote.soup layout task.shares new is len marks)
+    (cert_lines task.rising said (search (rules, kept_allowed))) (soup_in_law text soup read)
+    (search (rules, length-map-range_with_len)) (chains_of wrote.soup layout task.shares new is len marks)

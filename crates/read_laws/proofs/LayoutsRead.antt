@@ -1,16 +1,15 @@
 -- The layouts of bytes that are read.
 use Rattle.std.proofs.Common.{rules, ◌≡◌, sym, ◌∙◌, refl, Ok, Some, None, ◌≤◌}
-use Rattle.def_layout.specs.{Layouts.gluing_of, Lengths.AreLengths}
-use Rattle.def_remesh.specs.{NewPoints.lengths_in, Tasks.Task}
 use Rattle.def_run.specs.declared.command.Command.TheVariants.{Coarse, Crease, Fit, Remesh, Size}
 use Rattle.def_run.specs.{Map.asks_of, Mesh.IsMeshText, Remesh.WritesFinished, declared.command.Command.Command}
 use Rattle.def_patches.specs.declared.Patches.TheVariants.{Merged, Traced}
 use Rattle.def_readlaws.specs.ReadLayouts.{OneChosenLaw, OneTracedLaw, TaskLayoutLaw}
-use Rattle.existence_laws.proofs.Layouts.{layout_law, traced_layout_law}
-use Rattle.patch_laws.proofs.Chosen.{chosen_cut_law, one_cut_law}
+use Rattle.existence_laws.proofs.{Layouts.layout_law, Layouts.traced_layout_law}
 use Rattle.read_laws.proofs.{MarksRead.asides_in_law, MarksRead.marks_in_law, Soups.mesh_text_law}
-use Rattle.{def_cut.specs.FullCut.IsFullCut, def_feature.specs.Marked.marked_cut, def_io.specs.Bytes.Bytes}
-use Rattle.{def_certtext.specs.CertLines.used, def_layoutnet.specs.MeshLayouts.IsSomeLayout}
+use Rattle.{def_layout.specs.Layouts.gluing_of, def_layout.specs.Lengths.AreLengths}
+use Rattle.{def_remesh.specs.NewPoints.lengths_in, def_remesh.specs.Tasks.Task, patch_laws.proofs.Chosen.chosen_cut_law}
+use Rattle.{patch_laws.proofs.Chosen.one_cut_law, def_cut.specs.FullCut.IsFullCut, def_feature.specs.Marked.marked_cut}
+use Rattle.{def_io.specs.Bytes.Bytes, def_certtext.specs.CertLines.used, def_layoutnet.specs.MeshLayouts.IsSomeLayout}
 use Rattle.{remesh_laws.proofs.ReadAgain.used_lengths, def_text.specs.FaceSet.FaceSet, site_laws.proofs.Laws.graph_law}
 
 -- Bytes have at most one soup.
@@ -34,14 +33,7 @@ one_chosen_law fit bytes soup asides is said =
     let cut = one_cut_law soup.faces asides.kept fit.patches mesh.manifold marks in
     let full = chosen_cut_law soup.faces asides.kept fit.patches cut.cut mesh.manifold marks cut.chosen in
     let one = layout_law soup.faces cut.cut mesh full in
-    record {
-      layout = one.layout;
-      cut = cut.cut;
-      chosen = cut.chosen;
-      full = full;
-      laid = one.laid;
-      alone = λ other laid. one.alone other (rw (← cut.only laid.0 laid.1) laid.2);
-    }
+    search rules
 
 -- The cut that a task asks for is full.
 full_task : (command : Command) (bytes : Bytes) (soup : FaceSet) (task : Task) → IsMeshText bytes soup
@@ -64,16 +56,7 @@ task_layout_law command bytes soup task is asked =
 -- The layout of a finished task is that of a mesh, and the lengths that it used are lengths of it.
 module _ (command : Command) (bytes text : Bytes) (wrote : WritesFinished (asks_of command) bytes text) where
   pub finished_layout : IsSomeLayout wrote.shown.finished.layout
-  finished_layout =
-      let mesh = mesh_text_law bytes wrote.soup wrote.mesh in
-      record {
-        faces = wrote.soup.faces;
-        mesh = mesh.1;
-        quads = mesh.2;
-        marks = wrote.task.marks;
-        cut = full_task command bytes wrote.soup wrote.task wrote.mesh wrote.asked;
-        laid = wrote.shown.finished.cut;
-      }
+  finished_layout = let mesh = mesh_text_law bytes wrote.soup wrote.mesh in search (rules, full_task)
 
   pub finished_lengths : 1 ≤ wrote.task.settings.floor → AreLengths (gluing_of wrote.shown.finished.layout)
       (lengths_in (used wrote.shown.finished.certificates).x)

@@ -1,6 +1,6 @@
 -- The lines of chains behind a canonical text are read again as the marks along these chains.
-use Rattle.std.proofs.Common.{rules, ◌≡◌, ◌+◌, ◌<◌, ◌≤◌, ◌&&◌, ◌||◌, ◌^◌, ℕ, pos, suc, true, false, cond, not, List, []}
-use Rattle.std.proofs.Common.{◌∷◌, ◌++◌, length, map, get_or, refl, sym, ap, ◌∙◌, arith, subst, eqb, ltb, is_some, Ok}
+use Rattle.std.proofs.Common.{rules, ◌≡◌, ◌+◌, ◌<◌, ◌≤◌, ◌&&◌, ◌^◌, ℕ, pos, suc, true, false, cond, not, List, []}
+use Rattle.std.proofs.Common.{◌∷◌, ◌++◌, length, map, get_or, refl, sym, ap, ◌∙◌, arith, subst, eqb, is_some, Ok}
 use Rattle.std.proofs.lemmas.Bool.{and_parts, and_right, eqb-true, ltb-false, ltb-true, not-true}
 use Rattle.std.proofs.{lemmas.List.append-nil, lemmas.List.append_assoc, lemmas.List.take_all}
 use Rattle.std.proofs.{lemmas.List.Folds.flat_map-map, lemmas.List.Sums.sum_by-cons}
@@ -11,7 +11,7 @@ use Rattle.def_marks.specs.Lines.{vertex_lines_in}
 use Rattle.def_marks.specs.{Chains.marks_along, Chains.runs_along, MarkedText.chain_text}
 use Rattle.def_readlaws.specs.ReadChains.{AreHashLines, IsChainOf, MarksAgainLaw}
 use Rattle.def_text.specs.{Canonical.canonical_text, Canonical.micro_text, Decimal.is_far, FaceSet.FaceSet}
-use Rattle.def_text.specs.{Laws.is_position, Laws.is_quad, Logical.continues, Logical.is_hash, Logical.Logical}
+use Rattle.def_text.specs.{Laws.is_position, Logical.continues, Logical.is_hash, Logical.Logical}
 use Rattle.def_text.specs.{Logical.logical_lines, Reading.begins_with, Reading.is_vertex_line, Text.numbers_to}
 use Rattle.def_text.specs.{Types.Position, Types.Positions, Types.Words, Words.is_blank, Words.words}
 use Rattle.qm_obj.proofs.LawSoup.{canonical_lines, each_both, each_map, face_line, face_line_is, position_line}
@@ -91,13 +91,11 @@ module _ (soup : FaceSet) (all : ℕ) where
       let is = each 0 (omega arith) in
       let said = chain_said_law soup chain p names few many (tame_whole (chain_line chain) (chain_tame chain)
       ∙ sym (line_is chain)) is.long is.low is.edges in
-      let behind = say chains rest names few many (λ k low. each (suc k) (omega (arith, low))) gives
-      (before + vertex_lines_in line) (n + 1) in
-      record {
-        fails = ap (λ fs. fs ++ flat_map (line_fails soup) (placed_lines all (before + vertex_lines_in line)
-            (lone_lines (n + 1) (map chain_line chains ++ rest)))) said.0 ∙ behind.fails;
-        along = λ d i. runs_along soup.faces (said.1 i) d || behind.along d i;
-      }
+      search (
+        rules,
+        say chains rest names few many (λ k low. each (suc k) (omega (arith, low))) gives
+            (before + vertex_lines_in line) (n + 1),
+      )
 
 -- There are as many `v` lines as positions, or more.
 count_more : (m : ℕ) (lines rest : Lines) → ((n : ℕ) → m ≤ count_by is_vertex_line (lone_lines n rest)) → (n : ℕ)
@@ -114,9 +112,7 @@ count_positions (p ∷ ps) rest n near =
     ap (λ (t : Bytes). begins_with 118 (words t)) (tame_whole (position_line p) (position_line_is p parts.0).tame)
     ∙ ap (begins_with 118) (line_words 118 (map micro_text p) refl (position_words p parts.0)) in
     let counted : vertex_lines_in (lone n (position_line p)) ≡ 1 = ap (λ t. cond t 1 0) one in
-    let all = sum_by-cons (λ l. cond (is_vertex_line l) 1 0) (lone n (position_line p))
-    (lone_lines (n + 1) (map position_line ps ++ rest)) in
-    omega (arith, all, counted, count_positions ps rest (n + 1) parts.1)
+    search (rules, sum_by-cons, count_positions ps rest (n + 1) parts.1)
 
 abbrev IsWhole : (line : Bytes) → Type 0
 IsWhole line = continues line ≡ false
@@ -129,40 +125,34 @@ marks_again_law front behind soup chains before after fine names each =
     let all_lines = lines_of front ++ (canonical ++ (said ++ lines_of behind)) in
     let all = count_by is_vertex_line (lone_lines 1 all_lines) in
     let hashes = λ (text : Bytes) (is : AreHashLines text) (k : ℕ) (low : k < length (lines_of text)).
-    hash_other (get_or (lines_of text) k []) (passes_at is_hash_line (lines_of text) k [] is.hashes low) in
-    let others : (k : ℕ) → k < length canonical → IsOther (get_or canonical k []) =
-    each_both IsOther (map position_line soup.pos) (map face_line soup.faces) []
-    (each_map IsOther position_line soup.pos [] [] (λ k low.
-    let is = passes_at is_position soup.pos k [] fine.positions low in
-    letter_other 118 (map micro_text (get_or soup.pos k [])) refl refl (position_line_is (get_or soup.pos k []) is)
-    (position_words (get_or soup.pos k []) is))) (each_map IsOther face_line soup.faces [] [] (λ k low.
+    hash_other (get_or (lines_of text) k []) (passes_at is_hash_line _ k [] is.hashes low) in
+    let others : (k : ℕ) → k < length canonical → IsOther (get_or canonical k []) = each_both IsOther
+    (map position_line soup.pos) _ [] (each_map IsOther position_line _ [] [] (λ k low.
+    let is = passes_at is_position _ k [] fine.positions low in
+    letter_other 118 _ refl refl (position_line_is (get_or soup.pos k []) is)
+    (position_words _ is))) (each_map IsOther face_line _ [] [] (λ k low.
     let face = get_or soup.faces k [] in
-    let below = passes_at (are_below n) soup.faces k [] fine.soup.in_range low in
-    letter_other 102 (map vertex_word face) refl refl
-    (face_line_is n face fine.few_vertices (passes_at is_quad soup.faces k [] fine.quads low) below)
-    (each_map IsWord vertex_word face 0 [] (λ k low.
-    let less = ltb-true (get_or face k 0) n (passes_at (λ v. ltb v n) face k 0 below low) in
-    decimal_word (get_or face k 0 + 1) (omega (arith, fine.few_vertices, less)))))) in
+    let below = passes_at (are_below n) _ k [] fine.soup.in_range low in
+    letter_other 102 _ refl refl (face_line_is n face fine.few_vertices (passes_at _ soup.faces k [] fine.quads low)
+    below) (each_map IsWord _ face 0 [] (λ k low.
+    let less = ltb-true (get_or face k 0) n (passes_at _ face k 0 below low) in
+    decimal_word _ (omega (arith, fine.few_vertices, less)))))) in
     let same = sym (flat_map-map (λ l. l ++ 10 ∷ []) chain_line chains) in
     let lines : lines_of (front ++ (canonical_text soup ++ (flat_map chain_text chains ++ behind))) ≡ all_lines =
-    lines_append front _ before.ended ∙ ap (λ ls. lines_of front ++ ls)
-    (lines_append (canonical_text soup) _ (canonical_ends soup)
-    ∙ (λ i. (ap lines_of (lines_text soup) ∙ lines_split canonical (lines_are soup fine)) i
-    ++ (lines_append (flat_map chain_text chains) behind (ap ends_line same ∙ ends_lines said)
-    ∙ ap (λ ls. ls ++ lines_of behind) (ap lines_of same ∙ lines_back said (chains_inside chains))) i)) in
-    let whole = logical_lone 1 all_lines (each_both IsWhole (lines_of front) _ []
-    (λ k low. (hashes front before k low).whole) (each_both IsWhole canonical _ [] (λ k low. (others k low).whole)
-    (each_both IsWhole said (lines_of behind) [] (each_map IsWhole chain_line chains [] []
-    (λ k low. no_continuation (chain_line (get_or chains k [])) (chain_tame (get_or chains k []))))
+    lines_append front _ before.ended ∙ ap (λ ls. lines_of front ++ ls) (lines_append (canonical_text soup) _
+    (canonical_ends soup) ∙ (λ i. (ap lines_of (lines_text soup) ∙ lines_split canonical (lines_are _ fine)) i ++
+    (lines_append (flat_map chain_text chains) behind (ap ends_line same ∙ ends_lines said)
+    ∙ ap (λ ls. ls ++ lines_of behind) (ap lines_of same ∙ lines_back said (chains_inside _))) i)) in
+    let whole = logical_lone 1 all_lines (each_both IsWhole _ _ [] (λ k low. (hashes front before k low).whole)
+    (each_both IsWhole canonical _ [] (λ k low. (others k low).whole) (each_both IsWhole _ (lines_of behind) []
+    (each_map IsWhole _ chains [] [] (λ k low. no_continuation (chain_line (get_or chains k [])) (chain_tame _)))
     (λ k low. (hashes behind after k low).whole)))) in
-    let many = count_more n (lines_of front) (canonical ++ (said ++ lines_of behind)) (λ k. rw (append_assoc
-    (map position_line soup.pos) (map face_line soup.faces) (said ++ lines_of behind))
-    (count_positions soup.pos _ k fine.positions)) 1 in
-    let gives = pass soup all chains (lines_of front) _ (hashes front before) (pass soup all chains canonical _ others
-    (say soup all chains (lines_of behind) names fine.few_vertices many each (λ b m.
-    subst (λ (ls : Lines). Gives soup (placed_lines all b (lone_lines m ls)) []) (append-nil (lines_of behind))
-    (pass soup all [] (lines_of behind) [] (hashes behind after)
-    (λ c m. record { fails = refl; along = λ d. refl }) b m)))) 0 1 in
+    let many = count_more n (lines_of front) (canonical ++ (said ++ lines_of behind))
+    (λ k. rw (append_assoc _ (map face_line soup.faces) _) (count_positions soup.pos _ k fine.positions)) 1 in
+    let gives = pass _ all _ (lines_of front) _ (hashes front before) (pass _ all _ canonical _ others
+    (say soup _ chains (lines_of behind) names fine.few_vertices many each
+    (λ b m. subst (λ (ls : Lines). Gives soup (placed_lines all b (lone_lines m ls)) []) (append-nil (lines_of behind))
+    (pass _ all [] _ [] (hashes behind after) (λ c m. record { fails = refl; along = λ d. refl }) b m)))) 0 1 in
     ap (λ ls. marks_of soup (text_lines (logical_lines 1 ls))) lines ∙ (ap (λ ls. marks_of soup (text_lines ls)) whole
     ∙ (ap (λ fs. first_fail fs (marks_along soup.faces (map (line_chain soup) (text_lines (lone_lines 1 all_lines)))))
     gives.fails ∙ (λ i. Ok (map (λ d. is_some (twin_of soup.faces d) && gives.along d i) (all_darts soup.faces)))))

@@ -1,25 +1,23 @@
 -- The chains of the arcs of a new mesh are chains of its edges, and name each edge once.
-use Rattle.std.proofs.Common.{rules, ◌≡◌, ◌⊎◌, ◌+◌, ◌-◌, ◌<◌, ℕ, Bool, true, false, length, map, inl, inr, sym, ap}
-use Rattle.std.proofs.Common.{subst, ◌∙◌, arith}
+use Rattle.std.proofs.Common.{rules, ◌≡◌, ◌⊎◌, ◌+◌, ◌-◌, ◌<◌, ℕ, Bool, true, false, map, inl, inr, sym, ap, ◌∙◌, arith}
+use Rattle.std.proofs.{lemmas.List.FromFn.length-range_with_len, lemmas.List.Folds.list_any_at}
 use Rattle.std.proofs.lemmas.Bool.{and_from, eq-eqb, or_left, or_right}
 use Rattle.std.proofs.lemmas.List.FromFn.{get_or-map-range_with_len, get_or-range_with_len, length-map-range_with_len}
-use Rattle.std.proofs.lemmas.List.FromFn.{length-range_with_len}
-use Rattle.std.proofs.{lemmas.List.Folds.list_any_at, lemmas.List.Sums.list_all-from_AllPass}
-use Rattle.def_layout.specs.{Layouts.gluing_of, Layouts.Layout, Layouts.vertex_at, Arcs.long_at, Gluings.Gluing}
-use Rattle.def_layout.specs.{Lengths.AreLengths, Lengths.Lengths, Surfaces.IsSurface}
-use Rattle.{def_layoutnet.specs.MeshLayouts.IsSomeLayout, std.specs.List.range_with_len}
-use Rattle.def_marks.specs.{Chains.is_chain, Chains.is_edge, Chains.link_at, Chains.runs_between, Chains.step_places}
-use Rattle.def_marks.specs.{MarkedText.arc_chain}
-use Rattle.def_mesh.specs.{Darts.darts, Darts.from_of, Darts.to_of, Faces.Faces}
-use Rattle.def_readlaws.specs.ReadChains.{AreNewChains, FinishedChainsLaw}
-use Rattle.def_written.specs.{Edges.Edge, Edges.IsEdge, Edges.IsUndoubled, Edges.on_arc, NewFaces.new_faces}
-use Rattle.def_written.specs.{Numbers.vertex_number, Points.arc_point}
-use Rattle.embedding_laws.proofs.Bounds.{laid_of, lies}
+use Rattle.def_layout.specs.Layouts.{gluing_of, Layout, vertex_at}
+use Rattle.def_layout.specs.{Arcs.long_at, Gluings.Gluing, Lengths.AreLengths, Lengths.Lengths, Surfaces.IsSurface}
+use Rattle.def_marks.specs.Chains.{is_chain, is_edge, link_at, runs_between, step_places}
+use Rattle.def_mesh.specs.Darts.{darts, from_of, to_of}
+use Rattle.def_readlaws.specs.{ReadChains.AreNewChains, ReadChains.FinishedChainsLaw}
+use Rattle.def_written.specs.Edges.{Edge, IsEdge, IsUndoubled, on_arc}
+use Rattle.def_written.specs.{NewFaces.new_faces, Numbers.vertex_number, Points.arc_point}
 use Rattle.written_laws.proofs.Courses.{course, course_from, course_of, course_to, end_at, start_at, edge_dart}
-use Rattle.written_laws.proofs.Courses.{edge_points}
-use Rattle.written_laws.proofs.{NewDarts.dart_low, NewDarts.dart_number, NewDarts.number_from, NewDarts.number_to}
-use Rattle.written_laws.proofs.{EdgeNumbers.number_same, Shape.laid_law, Shape.new_manifold_law, Between.simple_from}
+use Rattle.written_laws.proofs.{Courses.edge_points, EdgeNumbers.number_same, Shape.laid_law, Shape.new_manifold_law}
+use Rattle.written_laws.proofs.NewDarts.{dart_low, dart_number, number_from, number_to}
 use Rattle.read_laws.proofs.{LayoutsRead.finished_layout, LayoutsRead.finished_lengths, MarksRead.chain_marks}
+use Rattle.{std.proofs.lemmas.List.Sums.list_all-from_AllPass, def_layoutnet.specs.MeshLayouts.IsSomeLayout}
+use Rattle.{std.specs.List.range_with_len, def_marks.specs.MarkedText.arc_chain, def_mesh.specs.Faces.Faces}
+use Rattle.{embedding_laws.proofs.Bounds.laid_of, embedding_laws.proofs.Bounds.lies}
+use Rattle.written_laws.proofs.Between.{simple_from}
 
 -- The ends of a dart that runs between two vertices.
 abbrev HasEnds : (faces : Faces) (u v d : ℕ) → Type 0
@@ -44,13 +42,10 @@ module _ (l : Gluing) (x : Lengths) where
         let (d, is, same) = edge_dart l x laid len (on_arc a k) (low, less) in
         let n = dart_number l x d in
         list_any_at (runs_between (new_faces l x) (number a k) (number a (k + 1)))
-        (range_with_len 0 (darts (new_faces l x))) n 0
-        (omega (arith, length-range_with_len 0 (darts (new_faces l x)), dart_low l x d is))
+        (range_with_len 0 (darts (new_faces l x))) n 0 (search (rules, length-range_with_len, dart_low))
         (ap (runs_between (new_faces l x) (number a k) (number a (k + 1)))
-        (get_or-range_with_len 0 (darts (new_faces l x)) n 0 (dart_low l x d is) ∙ omega arith)
-        ∙ by_way n (course_of l x d).ahead (number_from l x d is ∙ ap (vertex_number l x)
-        (course_from l x laid len d is ∙ ap (λ (e : Edge). start_at l x (course e (course_of l x d).ahead)) same))
-        (number_to l x d is ∙ ap (vertex_number l x)
+        (search (rules, get_or-range_with_len, dart_low)) ∙ by_way n (course_of l x d).ahead
+        (search (rules, number_from, course_from)) (number_to l x d is ∙ ap (vertex_number l x)
         (course_to l x laid len d is ∙ ap (λ (e : Edge). end_at l x (course e (course_of l x d).ahead)) same)))
       where
         by_way : (d : ℕ) (b : Bool)
@@ -62,14 +57,8 @@ module _ (l : Gluing) (x : Lengths) where
 
     pub chain_is : (a : ℕ) → a < l.arcs → is_chain (new_faces l x) (arc_chain l x a) ≡ true
     chain_is a low = list_all-from_AllPass (λ k. is_edge (new_faces l x) (link_at (arc_chain l x a) k)
-        (link_at (arc_chain l x a) (k + 1))) (step_places (arc_chain l x a)) (λ i other there.
-        let inside : i < length (arc_chain l x a) - 1 =
-        omega (arith, length-range_with_len 0 (length (arc_chain l x a) - 1)) in
-        subst (λ k. is_edge (new_faces l x) (link_at (arc_chain l x a) k) (link_at (arc_chain l x a) (k + 1)) ≡ true)
-        (sym (get_or-range_with_len 0 (length (arc_chain l x a) - 1) i other inside ∙ omega arith))
-        (let less : i < x a = omega (arith, inside, length-map-range_with_len (λ k. number a k) 0 (x a + 1)) in
-        (λ t. is_edge (new_faces l x) (at_link a i (omega arith) t) (at_link a (i + 1) (omega arith) t))
-        ∙ step_edge a i low less))
+        (link_at (arc_chain l x a) (k + 1))) (step_places (arc_chain l x a))
+        (search (rules, length-range_with_len, get_or-range_with_len, length-map-range_with_len, at_link, step_edge))
 
     -- Edges with one pair of vertices are one edge.
     one_edge : IsUndoubled l x → (a k b m d : ℕ) → IsEdge l x (on_arc a k) → IsEdge l x (on_arc b m)
@@ -85,12 +74,9 @@ module _ (l : Gluing) (x : Lengths) where
         let as_crossed = λ (from : number a k ≡ number b (m + 1)) (to : number a (k + 1) ≡ number b m).
         simple.crossed (on_arc a k) (on_arc b m) is also (number_same l x (arc_point l x a k) (arc_point l x b (m + 1))
         one.0 two.1 from) (number_same l x (arc_point l x a (k + 1)) (arc_point l x b m) one.1 two.0 to) in
-        let other = ends_of (new_faces l x) (number b m) (number b (m + 1)) d and_runs in
         elim (ends_of (new_faces l x) (number a k) (number a (k + 1)) d runs) [
-          | inl s ↦ elim other
-              [ inl t ↦ as_one (sym s.0 ∙ t.0) (sym s.1 ∙ t.1) | inr t ↦ as_crossed (sym s.0 ∙ t.0) (sym s.1 ∙ t.1) ]
-          | inr s ↦ elim other
-              [ inl t ↦ as_crossed (sym s.1 ∙ t.1) (sym s.0 ∙ t.0) | inr t ↦ as_one (sym s.1 ∙ t.1) (sym s.0 ∙ t.0) ]
+          | inl s ↦ search rules
+          | inr s ↦ search rules
         ]
 
 new_chains : (layout : Layout) (new : Lengths) → IsSomeLayout layout → AreLengths (gluing_of layout) new
@@ -101,15 +87,14 @@ new_chains layout new is len undoubled =
     let surface = laid_law is.faces l (long_at layout.arcs) (vertex_at layout) (lies layout is) in
     let along : (a k d : ℕ) → k < new a → runs_between (new_faces l new) (link_at (arc_chain l new a) k)
     (link_at (arc_chain l new a) (k + 1)) d ≡ true → runs_between (new_faces l new) (number l new a k)
-    (number l new a (k + 1)) d ≡ true = λ a k d less runs.
-    (λ t. runs_between (new_faces l new) (sym (at_link l new a k (omega arith)) t)
-    (sym (at_link l new a (k + 1) (omega arith)) t) d) ∙ runs in
+    (number l new a (k + 1)) d ≡ true = λ a k d less runs. (λ t. runs_between (new_faces l new)
+    (sym (at_link l new a k (omega arith)) t) (sym (at_link l new a (k + 1) (omega arith)) t) d) ∙ runs in
     record {
       chain = λ arc low. chain_is l new laid len arc low;
       once = λ a k b m d low also less fewer runs and_runs.
           let same = one_edge l new laid len undoubled a k b m d (low, less) (also, fewer) (along a k d less runs)
           (along b m d fewer and_runs) in
-          let arcs : a ≡ b = cc same in let places : k ≡ m = cc same in (arcs, places);
+          search rules;
       marked = λ arcs. chain_marks (new_faces l new) (map (arc_chain l new) arcs)
           (new_manifold_law l new surface.0 surface.1 len undoubled);
     }

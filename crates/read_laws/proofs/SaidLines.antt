@@ -1,7 +1,7 @@
 -- What one line says, where it is not refused.
 use Rattle.std.proofs.Common.{rules, ◌≡◌, ℕ, ◌+◌, ◌^◌, ◌≤◌, Bool, true, false, cond, not, ◌&&◌, List, [], ◌∷◌, length}
 use Rattle.std.proofs.Common.{take, map, refl, ap, ◌∙◌, arith, ltb, leb, eqb, ◌++◌, Some, None, inl, inr}
-use Rattle.std.proofs.lemmas.Bool.{and_from, leb-false, or_parts, and_parts, cases_Bool}
+use Rattle.std.proofs.lemmas.Bool.{and_from, or_parts, and_parts, cases_Bool}
 use Rattle.std.proofs.{lemmas.List.length-map, lemmas.List.length-append, lemmas.Bool.Decides.nat_tests}
 use Rattle.std.proofs.{lemmas.List.Folds.list_all-append, lemmas.List.Sums.sum_by_push}
 use Rattle.std.specs.List.{list_all, list_any, count_by, flat_map}
@@ -26,25 +26,12 @@ pub record IsSaid (vertices faces : ℕ) (line : Logical) (said : Reading) : Typ
   pub fine : (list_all is_position (position_in said) ≡ true) × (list_all is_quad (face_in said) ≡ true)
       × (list_all (list_all (λ corner. ltb 0 corner)) (face_in said) ≡ true)
 
--- No word is two letters.
-one_letter : (a b : ℕ) → (a ≡ b → ⊥) → (word : List ℕ) → is_letter a word ≡ true → is_letter b word ≡ false
-one_letter a b h1 word h2 = search rules
-
--- An index that is not out names a positive number.
-positive_at : (vertices : ℕ) (word : List ℕ) → is_out vertices word ≡ false → ltb 0 (resolved vertices word) ≡ true
-positive_at vertices word inside = grind (arith, nat_tests)
-
 positive_all : (vertices : ℕ) (ws : Words) → list_any (λ w. is_out vertices (used_index w)) ws ≡ false
     → list_all (λ corner. ltb 0 corner) (map (λ w. resolved vertices (used_index w)) ws) ≡ true
 positive_all vertices [] inside = refl
 positive_all vertices (w ∷ ws) inside =
     let parts = or_parts (is_out vertices (used_index w)) (list_any (λ w. is_out vertices (used_index w)) ws) inside in
-    and_from _ _ (positive_at vertices (used_index w) parts.0) (positive_all vertices ws parts.1)
-
--- Three numbers in range are a position.
-near_of : (ws : Words) → is_position_count (length ws) ≡ true → list_any (λ word. is_far (rounded word)) (take 3 ws)
-    ≡ false → is_position (map rounded (take 3 ws)) ≡ true
-near_of ws h1 h2 = search (rules, or_parts)
+    and_from _ _ (grind (arith, nat_tests)) (positive_all vertices ws parts.1)
 
 module _ (vertices faces : ℕ) (line : Logical) where
   said_passed : is_vertex_line line ≡ false → is_face_line line ≡ false → IsSaid vertices faces line Passed
@@ -62,7 +49,7 @@ module _ (vertices faces : ℕ) (line : Logical) where
       → is_face_line line ≡ false → Says (cond many (Refused (Limit limits.Vertices line.number))
       (cond (not (count && numbers)) (Refused (Syntax line.number))
       (cond far (Refused (Range line.number)) (Position (map rounded (take 3 ws))))))
-  by_vertex ws many count numbers far h1 h2 h3 h4 h5 = search (rules, near_of)
+  by_vertex ws many count numbers far h1 h2 h3 h4 h5 = search (rules, or_parts)
 
   by_face : (ws : Words) (many words_fit four out : Bool) → leb (2 ^ 20) faces ≡ many → eqb (length ws) 4 ≡ four
       → list_any (λ word. is_out vertices (used_index word)) ws ≡ out → is_vertex_line line ≡ false
@@ -71,14 +58,8 @@ module _ (vertices faces : ℕ) (line : Logical) where
       (cond (not four) (Refused (NotQuad line.number (length ws))) (cond out (Refused (Range line.number))
       (Face line.number (map (λ word. resolved vertices (used_index word)) ws))))))
   by_face ws false true true false m q o no_vertex face =
-      let low = leb-false (2 ^ 20) faces m in
       let four = ap (λ n. eqb n 4) (length-map ws (λ word. resolved vertices (used_index word))) ∙ q in
-      λ _. record {
-        vertex = rw no_vertex refl;
-        face = rw face refl;
-        few = (λ few. omega arith, λ few. omega (arith, low));
-        fine = (refl, and_from _ _ four refl, and_from _ _ (positive_all vertices ws o) refl);
-      }
+      search (rules, positive_all)
   by_face ws _ _ _ _ m q o no_vertex face = said_refused _
 
   by_letter : (word : List ℕ) (ws : Words) (v f : Bool) → words line.text ≡ word ∷ ws → is_letter 118 word ≡ v
@@ -86,7 +67,7 @@ module _ (vertices faces : ℕ) (line : Logical) where
       → Says (cond v (vertex_reading line.number vertices ws) (cond f (face_reading line.number vertices faces ws)
       Passed))
   by_letter word ws true f are v-is f-is = by_vertex ws _ _ _ _ refl refl refl (ap (begins_with 118) are ∙ v-is)
-      (ap (begins_with 102) are ∙ one_letter 118 102 (λ (e : ◌≡◌ {A = ℕ} 118 102). omega arith) word v-is)
+      (ap (begins_with 102) are ∙ (search rules))
   by_letter word ws false true are v-is f-is = by_face ws _ _ _ _ refl refl refl (ap (begins_with 118) are ∙ v-is)
       (ap (begins_with 102) are ∙ f-is)
   by_letter word ws false false are v-is f-is = search rules
@@ -127,19 +108,7 @@ are_said before (line ∷ lines) none =
     let more = readings (before ++ line ∷ []) lines in
     let nones = parts_none (refusal_in said) (flat_map refusal_in more) none in
     let one = is_said vs fs line nones.0 in
-    let rest = are_said (before ++ line ∷ []) lines nones.1 in
-    let v = sum_by_push (λ l. cond (is_vertex_line l) 1 0) before line in
-    let f = sum_by_push (λ l. cond (is_face_line l) 1 0) before line in
-    let pv = length-append (position_in said) (positions more) in
-    let pf = length-append (face_in said) (faces more) in
-    record {
-      few_vertices = λ few. omega (arith, rest.few_vertices (omega (arith, one.few.0 few, one.vertex, v)));
-      few_faces = λ few. omega (arith, one.face, f, pf, rest.few_faces (omega (arith, one.few.1 few, one.face, f)));
-      near = list_all-append is_position (position_in said) (positions more) ∙ and_from _ _ one.fine.0 rest.near;
-      quads = list_all-append is_quad (face_in said) (faces more) ∙ and_from _ _ one.fine.1 rest.quads;
-      positive = list_all-append (list_all (λ corner. ltb 0 corner)) (face_in said) (faces more)
-          ∙ and_from _ _ one.fine.2 rest.positive;
-    }
+    search (rules, sum_by_push, length-append, list_all-append, are_said (before ++ line ∷ []) lines nones.1)
 
 -- Positive corners, none of which is late, are numbers of positions.
 pub are_known : (n : ℕ) (said : List Reading) → flat_map (late_in n) said ≡ []

@@ -1,11 +1,10 @@
 -- What is written for bytes that are read: it is accepted behind them, and its vertices lie where they are said to.
 use Rattle.std.proofs.Common.{rules, ◌++◌, [], None, length, inr, sym, ap, ◌∙◌, arith, refl}
 use Rattle.std.proofs.{lemmas.Bool.false≢true, lemmas.List.FromFn.get_or-map-range_with_len}
-use Rattle.read_laws.proofs.Accepted.{accepts_law, head_there, last_line, IsHeadTest}
+use Rattle.read_laws.proofs.Accepted.{accepts_law, head_there, last_line}
 use Rattle.read_laws.proofs.{LayoutsRead.finished_layout, LayoutsRead.finished_lengths, LayoutsRead.task_layout_law}
 use Rattle.read_laws.proofs.{Soups.mesh_text_law}
-use Rattle.def_certtext.specs.{CertLines.alone, CertLines.Certificates, CertLines.used, Risings.third_if}
-use Rattle.def_certtext.specs.{declared.certs.Rising.Rising}
+use Rattle.def_certtext.specs.{CertLines.alone, CertLines.Certificates, CertLines.used, declared.certs.Rising.Rising}
 use Rattle.def_flow.specs.{Admissible.deviation, Admissible.entries, Network.Network, declared.net.Settings.Settings}
 use Rattle.{def_io.specs.Bytes.Bytes, def_io.specs.Lines.lines_of, embedding_laws.proofs.OneLayout.embedding_law}
 use Rattle.def_layout.specs.{Arcs.long_at, Layouts.gluing_of, Layouts.Layout, Layouts.vertex_at}
@@ -13,7 +12,7 @@ use Rattle.def_readlaws.specs.{ReadPairs.AcceptsTextLaw, ReadSpots.FinishedSpots
 use Rattle.def_readlaws.specs.{ReadSpots.SpotTextLaw}
 use Rattle.def_remesh.specs.{Tasks.given_floors, Tasks.old_lengths, Tasks.remesh_task, Certified.IsShown}
 use Rattle.def_remesh.specs.{Checked.accepted_line, Checked.IsCheckedPair, NewPoints.lengths_in, NewPoints.multiple_of}
-use Rattle.def_remesh.specs.{NewSoup.spaced_place, Remeshed.AreKeptBy, Remeshed.HasLeastLengths}
+use Rattle.def_remesh.specs.{Remeshed.AreKeptBy, Remeshed.HasLeastLengths}
 use Rattle.def_run.specs.{Checking.begins_fit, Checking.HasFitText, Checking.WritesAccepted, Check.head_of}
 use Rattle.def_run.specs.{MarkLines.begins_mark}
 use Rattle.map_laws.proofs.{OldPoints.spacing_is, SpotPlaces.spot_law}
@@ -32,13 +31,12 @@ net_of layout settings rising _ kept = (kept.1.fit.net, kept.1.fit.of_layout)
 -- A checked pair that is no text of `fit` has the line that tells its numbers.
 told_pair : (bytes : Bytes) → ¬ HasFitText bytes → IsCheckedPair bytes → (line : Bytes) × WritesAccepted bytes line
 told_pair bytes other pair =
-    let of = net_of pair.remeshed.layout pair.settings (third_if pair.auto) pair.remeshed.certificates
-    pair.remeshed.lengths in (
+    let of = net_of _ _ _ _ pair.remeshed.lengths in (
       accepted_line _ _ _,
       record {
         arcs = _;
         faces = _;
-        deviates = deviation of.0 (entries (used pair.remeshed.certificates).x);
+        deviates = deviation of.0 (entries _);
         counted = inr (
           other,
           record {
@@ -54,10 +52,6 @@ told_pair bytes other pair =
       },
     )
 
--- No line of a certificate begins as a head line of any command.
-mark_test : IsHeadTest begins_mark
-mark_test = search rules
-
 pub accepts_text_law : AcceptsTextLaw
 accepts_text_law settings auto old text range ends wrote =
     let solid = (mesh_text_law old wrote.soup wrote.mesh).0 in
@@ -65,7 +59,7 @@ accepts_text_law settings auto old text range ends wrote =
     -- The last head line of all is that of the remesh.
     told_pair (old ++ text) (λ fit.
     let there = one_last begins_mark (lines_of (old ++ text)) fit.line (length (lines_of old)) fit.divided
-    (last_line settings auto old text wrote.soup range ends solid shown begins_mark mark_test) in
+    (last_line settings auto old text wrote.soup range ends solid shown begins_mark (search rules)) in
     false≢true (sym (ap begins_fit (ap (λ n. head_of (old ++ text) n) there
     ∙ head_there settings auto old text wrote.soup range ends solid shown)) ∙ fit.begins))
     (accepts_law settings auto old text wrote.soup range wrote.mesh.said ends solid shown)
@@ -73,12 +67,9 @@ accepts_text_law settings auto old text range ends wrote =
 pub spot_text_law : SpotTextLaw
 spot_text_law bytes soup marks layout shares new is full laid long spaced v low =
     let mesh = mesh_text_law bytes soup is in
-    let spot = spot_law soup.faces layout shares new
-    (record { faces = soup.faces; mesh = mesh.1; quads = mesh.2; marks = marks; cut = full; laid = laid }, refl) long
-    spaced v low in (
+    let spot = spot_law soup.faces layout shares new (search rules, refl) long spaced v low in (
       spot.0,
-      spot.1 soup.pos ∙ sym (get_or-map-range_with_len (spaced_place soup.faces layout soup.pos shares new) 0
-          (vertices (gluing_of layout) new) v v [] low (omega arith)),
+      spot.1 soup.pos ∙ sym (get_or-map-range_with_len _ 0 _ v v [] low (omega arith)),
     )
 
 pub refined_spots_law : RefinedSpotsLaw
@@ -102,5 +93,4 @@ finished_spots_law command bytes text wrote range =
     let full = (task_layout_law command bytes wrote.soup wrote.task wrote.mesh wrote.asked).0 in
     let lengths = finished_lengths command bytes text wrote range.floor.low in
     spot_text_law bytes wrote.soup wrote.task.marks finished.layout wrote.task.shares new wrote.mesh full finished.cut
-    lengths (spacing_is finished.layout (finished_layout command bytes text wrote) new lengths finished.coarse
-    wrote.task.shares)
+    lengths (search (rules, spacing_is, finished_layout))

@@ -1,25 +1,23 @@
 -- The lines of a text around its mesh: whole lines, and those that begin with `#` are passed over.
-use Rattle.std.proofs.Common.{rules, ◌≡◌, ◌<◌, ◌≤◌, ◌^◌, ℕ, zero, suc, ℤ, pos, Bool, true, false, List, [], ◌∷◌, ◌++◌}
+use Rattle.std.proofs.Common.{rules, ◌≡◌, ◌<◌, ◌≤◌, ◌^◌, ℕ, zero, suc, pos, Bool, true, false, List, [], ◌∷◌, ◌++◌}
 use Rattle.std.proofs.Common.{codes, length, map, get_or, refl, sym, ◌∙◌, ap, subst, arith, length-append}
-use Rattle.{std.proofs.lemmas.Bool.and_parts, qm_obj.proofs.TailLemmas.passes_at, qm_obj.proofs.SoupLemmas.are_below}
-use Rattle.std.proofs.{lemmas.Fmt.length-decimal-le, lemmas.List.append-nil, lemmas.List.Folds.flat_map-map}
+use Rattle.std.proofs.{lemmas.Bool.and_parts, lemmas.Fmt.length-decimal-le, lemmas.List.append-nil}
+use Rattle.qm_obj.proofs.{TailLemmas.passes_at, SoupLemmas.are_below, LawSoup.text_lines}
 use Rattle.std.specs.{Prelude.◌+◌, Prelude.◌-◌, Prelude.decimal, List.flat_map, List.list_all}
-use Rattle.def_certtext.specs.Settings.{floor_text, scale_text, weight_text, AreInRange, IsFloor}
-use Rattle.def_certtext.specs.declared.CertLine.TheVariants.{Floor, Length, Set, Vertex, Rise as RiseLine}
-use Rattle.def_certtext.specs.{CertLines.dual_line, CertLines.line_text, CertLines.text_of, HeadLine.head_line}
-use Rattle.def_certtext.specs.{HeadLine.IsLastLine, Reading.is_small, Reading.may_stand, declared.CertLine.CertLine}
-use Rattle.def_certtext.specs.{declared.certs.Rising.Rising}
-use Rattle.def_flow.specs.declared.net.Weight.TheVariants.{Plain, Length as ByLength}
-use Rattle.def_flow.specs.{declared.net.Settings.Settings, declared.net.Weight.Weight}
-use Rattle.def_io.specs.{Bytes.Bytes, Bytes.Lines, Lines.lines_of}
-use Rattle.def_text.specs.{Canonical.canonical_text, FaceSet.FaceSet, Laws.is_position, Laws.is_quad}
-use Rattle.def_text.specs.{Laws.IsWritableSoup, Logical.continues}
-use Rattle.def_remesh.specs.{ReadAgain.ends_line, Refined.refine_head}
+use Rattle.def_certtext.specs.Settings.{floor_text, AreInRange, IsFloor}
+use Rattle.def_certtext.specs.{CertLines.line_text, CertLines.text_of, HeadLine.head_line, HeadLine.IsLastLine}
+use Rattle.def_certtext.specs.{Reading.may_stand, declared.CertLine.CertLine, declared.certs.Rising.Rising}
+use Rattle.def_flow.specs.declared.net.Settings.{Settings}
+use Rattle.def_text.specs.{Canonical.canonical_text, FaceSet.FaceSet, Laws.is_quad, Laws.IsWritableSoup}
 use Rattle.qm_certtext.proofs.Texts.{both_inside, lines_inside, number_inside, settings_inside, settings_line}
-use Rattle.qm_obj.proofs.LawSoup.{canonical_lines, each_both, each_map, face_line, face_line_is, position_line}
-use Rattle.qm_obj.proofs.LawSoup.{position_line_is, text_lines}
+use Rattle.qm_obj.proofs.LawSoup.{canonical_lines, each_both, each_map, face_line, face_line_is, position_line_is}
 use Rattle.qm_obj.proofs.LawText.{is_inside, lines_back, lines_split, no_continuation, IsLine}
-use Rattle.remesh_laws.specs.Asides.{IsAside, IsPassedOver}
+use Rattle.{std.proofs.lemmas.List.Folds.flat_map-map, def_io.specs.Bytes.Bytes, def_io.specs.Bytes.Lines}
+use Rattle.{def_io.specs.Lines.lines_of, def_text.specs.Logical.continues, def_remesh.specs.ReadAgain.ends_line}
+use Rattle.{def_remesh.specs.Refined.refine_head, remesh_laws.specs.Asides.IsAside}
+use Rattle.remesh_laws.specs.Asides.{IsPassedOver}
+use Rattle.def_certtext.specs.declared.CertLine.TheVariants.{Floor, Length, Set, Vertex, Rise as RiseLine}
+use Rattle.def_flow.specs.declared.net.Weight.TheVariants.{Plain, Length as ByLength}
 
 -- Lines that are passed over.
 abbrev pub ArePassed : (lines : Lines) → Type 0
@@ -52,11 +50,10 @@ canonical_ends soup = ap ends_line (text_lines soup) ∙ ends_lines (canonical_l
 module _ (soup : FaceSet) (is : IsWritableSoup soup) where
   -- They are lines.
   pub lines_are : (k : ℕ) → k < length (canonical_lines soup) → IsLine (get_or (canonical_lines soup) k [])
-  lines_are = each_both IsLine (map position_line soup.pos) (map face_line soup.faces) [] (each_map IsLine position_line
-      soup.pos [] [] (λ k l. position_line_is (get_or soup.pos k []) (passes_at is_position soup.pos k [] is.positions
-      l))) (each_map IsLine face_line soup.faces [] [] (λ k l. face_line_is (length soup.pos) (get_or soup.faces k [])
-      is.few_vertices (passes_at is_quad soup.faces k [] is.quads l) (passes_at (are_below (length soup.pos)) soup.faces
-      k [] is.soup.in_range l)))
+  lines_are = each_both IsLine _ _ [] (each_map IsLine _
+      _ [] [] (λ k l. position_line_is _ (passes_at _ _ k [] is.positions l))) (each_map IsLine face_line soup.faces []
+      [] (λ k l. face_line_is (length soup.pos) (get_or soup.faces k []) is.few_vertices (passes_at is_quad soup.faces k
+      [] is.quads l) (passes_at (are_below (length soup.pos)) soup.faces k [] is.soup.in_range l)))
 
   -- No line is joined to one of them.
   pub canonical_whole : (k : ℕ) → k < length (lines_of (canonical_text soup))
@@ -91,14 +88,12 @@ none_aside = record { ended = refl; each = λ k l. absurd (omega (arith, l)) }
 pub number_short : (n : ℕ) → n < 2 ^ 64 → length (decimal n) ≤ 20
 number_short n low = length-decimal-le 20 n (omega arith) (omega arith) (omega (arith, low))
 
--- The lines of a certificate are passed over.
-dual_short : (letter : ℕ) (z : ℤ) (up : ℕ) → is_small z up ≡ true → length (dual_line letter z up) ≤ 65536
-dual_short letter z up may = search (rules, length-append, number_short)
-
 cert_passed : (rising : Rising) (line : CertLine) → may_stand rising line ≡ true → IsPassedOver (line_text line)
 cert_passed rising (Length n) may = search (rules, number_short)
-cert_passed rising (Vertex z up) may = hash_passed (line_text (Vertex z up)) refl (dual_short 121 z up may)
-cert_passed rising (Set z up) may = hash_passed (line_text (Set z up)) refl (dual_short 115 z up may)
+cert_passed rising (Vertex z up) may = hash_passed (line_text (Vertex z up)) refl
+    (search (rules, length-append, number_short))
+cert_passed rising (Set z up) may = hash_passed (line_text (Set z up)) refl
+    (search (rules, length-append, number_short))
 cert_passed rising (Floor floor) may = search (rules, number_short)
 cert_passed rising (RiseLine rise) may = search (rules, length-append, number_short)
 
@@ -121,31 +116,12 @@ pub floor_short : (floor : ℕ) (auto : Bool) → IsFloor floor auto → length 
 floor_short floor true may = omega arith
 floor_short floor false may = number_short floor (omega (arith, may.high))
 
-weight_short : (weight : Weight) → length (weight_text weight) ≤ 20
-weight_short Plain = omega arith
-weight_short ByLength = omega arith
-
 -- A text of a line that ends with settings.
 pub settings_aside : (front : Bytes) (settings : Settings) (auto : Bool)
     → get_or (settings_line front settings auto) 0 0 ≡ 35 → list_all is_inside front ≡ true
     → length front ≤ 64 → AreInRange settings auto → IsAside (settings_line front settings auto ++ 10 ∷ [])
-settings_aside front settings auto begins inside few range =
-    let scale = front ++ scale_text settings in
-    let floor = (scale ++ codes " floor ") ++ floor_text settings.floor auto in
-    line_aside (settings_line front settings auto) begins (settings_inside front settings auto inside range) (omega (
-      arith,
-      length-append (floor ++ codes " weight ") (weight_text settings.weight),
-      length-append floor (codes " weight "),
-      length-append (scale ++ codes " floor ") (floor_text settings.floor auto),
-      length-append scale (codes " floor "),
-      few,
-      length-append front (scale_text settings),
-      length-append (decimal settings.p) (47 ∷ decimal settings.q),
-      number_short settings.p (omega (arith, range.p_high)),
-      number_short settings.q (omega (arith, range.q_high)),
-      floor_short settings.floor auto range.floor,
-      weight_short settings.weight,
-    ))
+settings_aside front settings auto begins inside few range = line_aside (settings_line front settings auto) begins
+    (settings_inside front settings auto inside range) (search (rules, length-append, number_short))
 
 pub head_aside : (settings : Settings) (auto : Bool) → AreInRange settings auto
     → IsAside (head_line settings auto ++ 10 ∷ [])
@@ -154,8 +130,7 @@ head_aside settings auto range = search (rules, settings_aside)
 pub refine_aside : (by : ℕ) → by < 2 ^ 64 → IsAside (refine_head by)
 refine_aside by low =
     let inside = both_inside (codes "#quadq 1 refine by ") (decimal by) refl (number_inside by low) in
-    let short : length (codes "#quadq 1 refine by " ++ decimal by)
-    ≤ 65536 = omega (arith, length-append (codes "#quadq 1 refine by ") (decimal by), number_short by low) in
+    let short : length (codes "#quadq 1 refine by " ++ decimal by) ≤ 65536 = search (rules, number_short) in
     line_aside (codes "#quadq 1 refine by " ++ decimal by) refl inside short
 
 -- The last line that begins in some way.

@@ -1,15 +1,15 @@
 -- A layout that is remeshed whatever least lists are kept is refused for no certificate.
-use Rattle.std.proofs.Common.{rules, ℕ, arith, ◌≡◌, ◌≤◌, ◌<◌, List, length, subst, refl}
+use Rattle.std.proofs.Common.{rules, ℕ, arith, ◌≡◌, ◌≤◌, ◌<◌, List, length, refl}
 use Rattle.std.proofs.{lemmas.Int.ints, lemmas.List.get_or_past}
 use Rattle.std.specs.Prelude.{IsErrOf, Result, Err}
-use Rattle.def_certtext.specs.CertLines.{lists_of, Lists, alone, raised, used, Certificates}
+use Rattle.def_certtext.specs.CertLines.{lists_of, alone, raised, used, Certificates}
 use Rattle.def_certtext.specs.{declared.certs.Rising.Rising, declared.certs.Rising.TheVariants.Third}
 use Rattle.def_flow.specs.{declared.cert.Cert.Cert, declared.net.Settings.Settings, Accepted.certificate}
 use Rattle.def_flow.specs.{Descent.IsSolution, Network.arc_at, Network.Network, declared.limits.TheConstants.MAX_FLOOR}
 use Rattle.def_flow.specs.{declared.limits.TheConstants.MAX_LENGTH}
 use Rattle.def_layout.specs.{Lengths.Lengths, Lengths.AreLengths as AreArcLengths, Layouts.Layout, Layouts.gluing_of}
 use Rattle.def_layout.specs.{Layouts.vertex_at, FaceLayouts.IsCutLayout}
-use Rattle.def_remesh.specs.Refusals.{IsDoubledBy, IsFineBy, IsLeastFor, IsRemeshable, AreTooFine}
+use Rattle.def_remesh.specs.Refusals.{IsDoubledBy, IsFineBy, IsRemeshable, AreTooFine}
 use Rattle.def_remesh.specs.Remeshed.{AreKeptBy, HasLeastLengths, AreCoarse, AreDoubled, finished_text}
 use Rattle.def_remesh.specs.{Certified.IsCertified, Certified.AreKept, Tasks.given_floors, Tasks.Wish, Tasks.Task}
 use Rattle.def_remesh.specs.{declared.kept.Kept.Kept, declared.kept.Kept.TheVariants.Multiple}
@@ -23,11 +23,6 @@ use Rattle.def_written.specs.{Edges.IsFirstDoubled, NewFaces.new_faces, Shape.Ke
 use Rattle.{def_text.specs.FaceSet.FaceSet, def_layoutnet.specs.Floors.HasFloors}
 use Rattle.def_remesh.specs.declared.fail.StitchFail.TheVariants as fails
 
--- Certified lengths are a least list.
-least_for : {wish : Wish} (layout : Layout) (settings : Settings) (floors : Lengths) (cert : Lists)
-    → IsCertified wish layout settings floors cert → IsLeastFor wish layout settings floors cert.x
-least_for layout settings floors cert is = search rules
-
 -- So the lengths that are used give too many faces only where those of some least lists do.
 pub fits_not_fine : (wish : Wish) (layout : Layout) (settings : Settings) (rising : Rising) (faces : ℕ) (kept : Kept)
     → IsRemeshable wish layout settings rising → IsFineBy wish layout settings rising faces kept → ⊥
@@ -37,7 +32,7 @@ fits_not_fine wish layout settings rising faces (Least certs) fits fine = search
 pub fits_not_doubled : (wish : Wish) (layout : Layout) (settings : Settings) (rising : Rising) (u v : ℕ) (cert : Cert)
     → IsRemeshable wish layout settings rising → IsDoubledBy wish layout settings rising u v cert → ⊥
 fits_not_doubled wish layout settings rising u v cert fits by = fits.undoubled by.given by.low cert.x.items
-    (least_for layout settings (given_floors settings) (lists_of cert) by.certified) u v by.pair.doubled
+    (search rules) u v by.pair.doubled
 
 -- What least lengths and the numbers of their new mesh make, together, of a layout that is remeshed.
 
@@ -66,14 +61,7 @@ pub keeps : {wish : Wish} (layout : Layout) (settings : Settings) (rising : Risi
     → IsNumbered layout xs tables → IsKept wish layout settings rising certificates tables
 keeps layout settings rising certificates xs tables same kept numbered =
     let is : IsNumbered layout (used certificates).x tables = rw (← same) numbered in
-    record {
-      kept = kept;
-      coarse = subst (AreCoarse layout) is.lengths is.numbering.few;
-      undoubled = is.undoubled;
-      shape = is.shape;
-      numbering = is.numbering;
-      lengths = is.lengths;
-    }
+    search rules
 
 pub keeps_first : {wish : Wish} (layout : Layout) (settings : Settings) (rising : Rising) (cert : Cert) (xs : List ℕ)
     (tables : Tables) → xs ≡ cert.x.items → IsCertified wish layout settings (given_floors settings) (lists_of cert)

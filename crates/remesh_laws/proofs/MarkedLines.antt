@@ -1,31 +1,24 @@
 -- The lines of marked arcs: whole lines, of which none begins with `#`.
 use Rattle.std.proofs.Common.{rules, ◌≡◌, ◌+◌, ◌/◌, ◌%◌, ◌<◌, ℕ, zero, suc, Bool, true, false, List, [], ◌∷◌, ◌++◌}
 use Rattle.std.proofs.Common.{length, map, filter, get_or, ◌∙◌, ap, refl, arith, ◌↔◌, drop, slice_index_or}
-use Rattle.std.proofs.lemmas.Bool.{and_from, cond_both}
-use Rattle.std.proofs.{lemmas.List.Folds.flat_map-map, lemmas.List.Folds.list_all-append}
+use Rattle.std.proofs.{lemmas.Bool.and_from, lemmas.List.Folds.flat_map-map, lemmas.List.Folds.list_all-append}
 use Rattle.std.specs.{Fmt.digit_glyph, Fmt.digits, Fmt.digits_onto, List.flat_map, List.list_all, List.range_with_len}
-use Rattle.std.specs.{Prelude.◌==◌, Prelude.decimal}
-use Rattle.def_certtext.specs.{Reading.is_hash_line, Reading.Made, Reading.TellHow, Laws.TellsOnly}
+use Rattle.def_certtext.specs.Reading.{is_hash_line, Made, TellHow}
 use Rattle.def_io.specs.{Bytes.Bytes, Bytes.Lines, Lines.lines_of, Lines.tail_of}
 use Rattle.def_layout.specs.{Layouts.gluing_of, Layouts.Layout, Lengths.Lengths}
 use Rattle.def_marks.specs.MarkedText.{arc_chain, arc_text, chain_text, is_marked_arc, marked_text}
 use Rattle.def_remesh.specs.{ReadAgain.ends_line, TextLaws.made_by, TextLaws.PairLaw}
 use Rattle.qm_obj.proofs.LawText.{is_inside, is_tame, lines_back, tame_inside}
-use Rattle.remesh_laws.{proofs.Asides.ends_lines, proofs.Tails.first-drop, proofs.Tails.lines-tail}
-use Rattle.remesh_laws.{proofs.Tails.tail_behind, proofs.ReadAgain.told_law, specs.Asides.IsSilent}
-
--- The digits of a number neither end nor cut a line.
-glyph_tame : (d : ℕ) → d < 10 → is_tame (digit_glyph false d) ≡ true
-glyph_tame d low = search rules
+use Rattle.remesh_laws.proofs.Tails.{first-drop, lines-tail, tail_behind}
+use Rattle.{std.specs.Prelude.decimal, def_certtext.specs.Laws.TellsOnly, remesh_laws.proofs.Asides.ends_lines}
+use Rattle.{remesh_laws.proofs.ReadAgain.told_law, remesh_laws.specs.Asides.IsSilent}
 
 digits_tame : (k n : ℕ) (behind : Bytes) → list_all is_tame behind ≡ true
     → list_all is_tame (digits_onto k 10 false n behind) ≡ true
 digits_tame zero n behind all = all
 digits_tame (suc k) n behind all =
-    let more : list_all is_tame (digit_glyph false (n % 10) ∷ behind) ≡ true =
-    and_from _ _ (glyph_tame (n % 10) (omega arith)) all in
-    cond_both (n / 10 == 0) _ _ (λ (bs : Bytes). list_all is_tame bs ≡ true) (λ on. more)
-    (λ off. digits_tame k (n / 10) (digit_glyph false (n % 10) ∷ behind) more)
+    let more : list_all is_tame (digit_glyph false (n % 10) ∷ behind) ≡ true = and_from _ _ (search rules) all in
+    search (rules, digits_tame k (n / 10) (digit_glyph false (n % 10) ∷ behind) more)
 
 -- The line of a chain, without its end.
 abbrev pub chain_line : (chain : List ℕ) → Bytes
@@ -82,10 +75,9 @@ pub tail_told : (bytes : Bytes) (line : ℕ) (by : Made) → TellsOnly (tail_of 
     → TellHow (slice_index_or (lines_of bytes) line []) (drop (line + 1) (lines_of bytes)) made ↔ (made ≡ by)
 tail_told bytes line by only made =
     let head : slice_index_or (lines_of (tail_of line bytes)) 0 [] ≡ slice_index_or (lines_of bytes) line [] = ap
-    (λ (ls : Lines). slice_index_or ls 0 []) (lines-tail line bytes) ∙ first-drop line (lines_of bytes) in
+    (λ (ls : Lines). slice_index_or ls 0 []) (lines-tail _ bytes) ∙ first-drop line (lines_of bytes) in
     let behind = tail_behind line bytes in
-    rw (← head)
-    (rw (← behind) (only made))
+    rw (← head) (rw (← behind) (only made))
 
 pub pair_law : PairLaw
 pair_law bytes pair solid made = tail_told bytes pair.line (made_by pair.settings pair.auto pair.remeshed.certificates)

@@ -1,22 +1,17 @@
 -- Lines that a reader of meshes passes over, before and behind the lines of a mesh, change nothing that is read.
-use Rattle.std.proofs.Common.{rules, ◌≡◌, ◌<◌, ◌+◌, ℕ, zero, suc, Bool, true, false, cond, not, if◌then◌else◌, List, []}
-use Rattle.std.proofs.Common.{◌∷◌, ◌++◌, length, take, get_or, Ok, refl, sym, ◌∙◌, ap, ap₂, arith, ltb}
-use Rattle.std.proofs.{lemmas.List.append-nil, lemmas.List.Concat.flat_map-append, lemmas.List.Sums.sum_by_push}
-use Rattle.def_text.specs.Logical.{continues, groups_of, joined, logical, logical_lines, numbered_groups, part_of}
-use Rattle.def_text.specs.Logical.{Logical}
-use Rattle.def_text.specs.Reading.{begins_with, is_face_line, is_letter, is_position_count, is_vertex_line, reading}
-use Rattle.def_text.specs.Reading.{words_reading}
+use Rattle.std.proofs.Common.{rules, ◌≡◌, ◌<◌, ◌+◌, ℕ, zero, suc, Bool, true, false, cond, if◌then◌else◌, List, [], ◌∷◌}
+use Rattle.std.proofs.Common.{◌++◌, length, get_or, Ok, refl, ◌∙◌, ap, ap₂, arith}
+use Rattle.std.proofs.{lemmas.List.Concat.flat_map-append, lemmas.List.Sums.sum_by_push}
+use Rattle.def_text.specs.Logical.{continues, groups_of, joined, logical, logical_lines, numbered_groups}
+use Rattle.def_text.specs.{Logical.Logical, declared.reading.Reading.Reading, declared.refusal.ObjFail.ObjFail}
+use Rattle.def_text.specs.Reading.{is_face_line, is_letter, is_vertex_line, reading, words_reading}
 use Rattle.def_text.specs.Text.{face_in, face_set, faces, first_refusal, late_in, position_in, positions, readings}
 use Rattle.def_text.specs.Text.{refusal_in, refusals, soup_of, text_soup}
-use Rattle.def_text.specs.declared.limits.TheConstants.{MAX_F_LINES, MAX_LINE, MAX_V_LINES}
+use Rattle.{std.specs.List.count_by, std.specs.List.flat_map, def_io.specs.Bytes.Bytes, def_io.specs.Bytes.Lines}
+use Rattle.{qm_obj.proofs.TailLemmas.parts_none, remesh_laws.proofs.Asides.ArePassed}
+use Rattle.remesh_laws.specs.Asides.{IsPassedOver}
 use Rattle.def_text.specs.declared.reading.Reading.TheVariants.{Face as Said, Passed, Refused}
-use Rattle.def_text.specs.{Corner.is_corner_word, Corner.is_out, Corner.used_index, Decimal.is_decimal, Decimal.is_far}
 use Rattle.def_text.specs.{Decimal.rounded, FaceSet.FaceSet, Types.Position as Place, Types.Words, Words.words}
-use Rattle.def_text.specs.{declared.reading.Reading.Reading, declared.refusal.ObjFail.ObjFail}
-use Rattle.{std.specs.List.count_by, std.specs.List.flat_map, std.specs.List.list_all, std.specs.List.list_any}
-use Rattle.{std.specs.Prelude.nat_le, std.specs.Prelude.◌&&◌, std.specs.Prelude.◌==◌, def_io.specs.Bytes.Bytes}
-use Rattle.{def_io.specs.Bytes.Lines, def_mesh.specs.Faces.Face, qm_obj.proofs.TailLemmas.parts_none}
-use Rattle.{remesh_laws.proofs.Asides.ArePassed, remesh_laws.specs.Asides.IsPassedOver}
 
 -- ---- One line under two numbers.
 
@@ -33,9 +28,6 @@ refused one two = record { position = refl; face = refl; refusal = λ none. cc n
 alike_self : (r : Reading) → IsAlike r r
 alike_self r = record { position = refl; face = refl; refusal = λ none. none; late = λ v none. none }
 
-faced : (m n : ℕ) (corners : Face) → IsAlike (Said m corners) (Said n corners)
-faced m n corners = search rules
-
 alike_if : (t : Bool) {a b c d : Reading} → IsAlike a b → IsAlike c d
     → IsAlike (if t then a else c) (if t then b else d)
 alike_if true one other = one
@@ -44,12 +36,8 @@ alike_if false one other = other
 module _ (m n vertices many : ℕ) where
   words_alike : (ws : Words) → IsAlike (words_reading m vertices many ws) (words_reading n vertices many ws)
   words_alike [] = alike_self Passed
-  words_alike (w ∷ ws) = alike_if (is_letter 118 w) (alike_if (nat_le MAX_V_LINES vertices) (refused _ _) (alike_if (not
-      (is_position_count (length ws) && list_all is_decimal ws)) (refused _ _) (alike_if (list_any (λ word. is_far
-      (rounded word)) (take 3 ws)) (refused _ _) (alike_self _)))) (alike_if (is_letter 102 w) (alike_if (nat_le
-      MAX_F_LINES many) (refused _ _) (alike_if (not (list_all is_corner_word ws)) (refused _ _) (alike_if (not (length
-      ws == 4)) (refused _ _) (alike_if (list_any (λ word. is_out vertices (used_index word)) ws) (refused _ _) (faced m
-      n _))))) (alike_self Passed))
+  words_alike (w ∷ ws) = alike_if (is_letter 118 w) (search (rules, alike_if, refused))
+      (alike_if (is_letter 102 w) (search rules) (alike_self Passed))
 
 -- ---- Lines under other numbers.
 
@@ -70,10 +58,6 @@ none_more : (p : Logical → Bool) (before : List Logical) (line : Logical) → 
     → count_by p before ≡ count_by p (before ++ line ∷ [])
 none_more p before line off = omega (arith, one_more p before line, ap (λ (t : Bool). cond {A = ℕ} t 1 0) off)
 
-more_counts : (before after : List Logical) (m n : ℕ) (group : Lines) → SameCounts before after
-    → SameCounts (before ++ logical m group ∷ []) (after ++ logical n group ∷ [])
-more_counts before after m n group same = search (rules, one_more)
-
 record AreAlike (said other : List Reading) : Type 0 where
   positions : flat_map position_in other ≡ flat_map position_in said
   faces : flat_map face_in other ≡ flat_map face_in said
@@ -90,11 +74,10 @@ alike : (before after : List Logical) (m n : ℕ) (groups : List Lines) → Same
 alike before after m n [] same =
     record { positions = refl; faces = refl; refusals = λ none. none; late = λ v none. none }
 alike before after m n (group ∷ groups) same = with_rest first (alike (before ++ logical m group ∷ []) (after ++ logical
-    n group ∷ []) (m + length group) (n + length group) groups (more_counts before after m n group same))
+    n group ∷ []) (m + length group) (n + length group) groups (search (rules, one_more)))
   where
     first : IsAlike (said_by before (logical m group)) (said_by after (logical n group))
-    first = rw (← same.faces, ← same.vertices) (alike_if (ltb MAX_LINE (logical m group).size) (refused _ _)
-        (words_alike m n (count_by is_vertex_line before) (count_by is_face_line before) (words (joined group))))
+    first = rw (← same.faces, ← same.vertices) (search (rules, alike_if, refused, words_alike))
 
     with_rest : {said other : Reading} {rest others : List Reading} → IsAlike said other → AreAlike rest others
         → AreAlike (said ∷ rest) (other ∷ others)
@@ -128,15 +111,6 @@ one_line : (n : ℕ) (line : Bytes) (lines : Lines) → continues line ≡ false
 one_line n line lines stays = search rules
 
 module _ (line : Bytes) (is : IsPassedOver line) (n : ℕ) where
-  text_is : joined (line ∷ []) ≡ part_of line
-  text_is = append-nil (part_of line)
-
-  pub no_vertex_line : is_vertex_line (logical n (line ∷ [])) ≡ false
-  no_vertex_line = ap (λ (t : Bytes). begins_with 118 (words t)) text_is ∙ is.no_vertex
-
-  pub no_face_line : is_face_line (logical n (line ∷ [])) ≡ false
-  no_face_line = ap (λ (t : Bytes). begins_with 102 (words t)) text_is ∙ is.no_face
-
   pub is_passed : (before : List Logical) → said_by before (logical n (line ∷ [])) ≡ Passed
   is_passed before = search rules
 
@@ -150,14 +124,8 @@ module _ (lines : Lines) (soup : FaceSet) (said : text_soup 1 lines ≡ Ok soup)
       let first : IsPassedOver line = each 0 (omega arith) in
       ap (λ (ls : List Logical). soup_of (readings before ls)) (one_line n line (front ++ lines) first.whole)
       ∙ (ap (λ (r : Reading). soup_of (r ∷ readings (before ++ logical n (line ∷ []) ∷ [])
-      (logical_lines (n + 1) (front ++ lines))))
-      (is_passed line first n before)
-      ∙ behind_front front (n + 1) (before ++ logical n (line ∷ []) ∷ []) (λ k l. each (suc k) (omega (arith, l)))
-      (record {
-        vertices = none.vertices ∙ none_more is_vertex_line before (logical n (line ∷ []))
-            (no_vertex_line line first n);
-        faces = none.faces ∙ none_more is_face_line before (logical n (line ∷ [])) (no_face_line line first n);
-      }))
+      (logical_lines (n + 1) (front ++ lines)))) (is_passed line first n before) ∙ behind_front front (n + 1)
+      (before ++ logical n (line ∷ []) ∷ []) (λ k l. each (suc k) (omega (arith, l))) (search (rules, none_more)))
 
 -- Readings that say nothing.
 abbrev passes : ℕ → List Reading
@@ -166,15 +134,11 @@ passes (suc k) = Passed ∷ passes k
 
 flat_passes : {X : Type 0} (f : Reading → List X) → f Passed ≡ [] → (k : ℕ) (said : List Reading)
     → flat_map f (said ++ passes k) ≡ flat_map f said
-flat_passes f none k said = flat_map-append f said (passes k) ∙ (ap (λ (xs : List _). flat_map f said ++ xs) (all k)
-    ∙ append-nil (flat_map f said))
+flat_passes f none k said = flat_map-append f said (passes k) ∙ (search (rules, all))
   where
     all : (k : ℕ) → flat_map f (passes k) ≡ []
     all zero = refl
     all (suc k) = ap₂ ◌++◌ none (all k)
-
-soup_passes : (k : ℕ) (said : List Reading) → soup_of (said ++ passes k) ≡ soup_of said
-soup_passes k said = search (rules, flat_passes)
 
 all_passed : (behind : Lines) (n : ℕ) (before : List Logical) → ArePassed behind
     → readings before (logical_lines n behind) ≡ passes (length behind)
@@ -191,14 +155,14 @@ said_before : (lines behind : Lines) (n : ℕ) (before : List Logical) → ((k :
 said_before [] behind n before whole each = all_passed behind n before each
 said_before (line ∷ lines) behind n before whole each =
     let stays : continues line ≡ false = whole 0 (omega arith) in
-    ap (readings before) (one_line n line (lines ++ behind) stays)
-    ∙ (ap (λ (rs : List Reading). said_by before (logical n (line ∷ [])) ∷ rs)
-    (said_before lines behind (n + 1) (before ++ logical n (line ∷ []) ∷ []) (λ k l. whole (suc k) (omega (arith, l)))
-    each)
-    ∙ ap (λ (ls : List Logical). readings before ls ++ passes (length behind)) (sym (one_line n line lines stays)))
+    search (
+      rules,
+      said_before lines behind (n + 1) (before ++ logical n (line ∷ []) ∷ [])
+          (λ k l. whole (suc k) (omega (arith, l))) each,
+    )
 
 -- Both.
 pub passed_over : (front lines behind : Lines) (soup : FaceSet) → ArePassed front
     → ((k : ℕ) → k < length lines → continues (get_or lines k []) ≡ false)
     → ArePassed behind → text_soup 1 lines ≡ Ok soup → text_soup 1 (front ++ (lines ++ behind)) ≡ Ok soup
-passed_over front lines behind soup fronts whole behinds said = search (rules, behind_front, said_before, soup_passes)
+passed_over front lines behind soup fronts whole behinds said = search (rules, behind_front, said_before, flat_passes)

@@ -1,29 +1,28 @@
 -- The soup of a new mesh can be written: its coordinates are in range, its faces are quads over few vertices, and
 -- within the limits of the reader it is one that a text can have.
-use Rattle.std.proofs.Common.{rules, ◌≡◌, ℕ, zero, suc, ◌-◌, ◌^◌, ◌<◌, ◌≤◌, Bool, true, not, List, [], ◌∷◌, Option}
-use Rattle.std.proofs.Common.{length, refl, sym, ◌∙◌, ap, arith, pos, negsuc, neg_ℤ, ℤ, ◌≤ℤ◌}
+use Rattle.std.proofs.Common.{rules, ◌≡◌, ℕ, zero, suc, ◌-◌, ◌<◌, ◌≤◌, Bool, true, not, List, [], ◌∷◌, Option, length}
+use Rattle.std.proofs.Common.{refl, sym, ◌∙◌, ap, arith, pos, negsuc, neg_ℤ, ℤ, ◌≤ℤ◌}
+use Rattle.std.proofs.{lemmas.Bool.Decides.Decides-eqb, lemmas.Int.ints, lemmas.List.Folds.list_all-map}
 use Rattle.std.proofs.lemmas.Bool.{and_from, and_parts, le-ltb, lt-ltb, ltb-false, not-true}
 use Rattle.std.proofs.lemmas.List.FromFn.{get_or-range_with_len, length-range_with_len, length-map-range_with_len}
-use Rattle.std.proofs.{lemmas.Bool.Decides.Decides-eqb, lemmas.Int.ints, lemmas.List.Folds.list_all-map}
-use Rattle.std.proofs.{lemmas.List.Sums.list_all-from_AllPass}
 use Rattle.std.specs.{List.list_all, List.range_with_len, Prelude.nat_lt, Prelude.unsigned_abs, Prelude.slice_index_or}
-use Rattle.written_laws.proofs.{NewDarts.cell_is, NewDarts.dart_low, NewDarts.dart_number, NewDarts.number_from}
+use Rattle.written_laws.proofs.NewDarts.{cell_is, dart_low, dart_number, number_from}
 use Rattle.written_laws.proofs.{Between.between_law, Borders.from_is, EdgeNumbers.point_onto, EdgeNumbers.number_low}
-use Rattle.written_laws.proofs.{ModelCounts.dart_used, ModelCounts.new_quads, ModelCounts.point_dart}
-use Rattle.def_text.specs.{Decimal.is_far, FaceSet.FaceSet, Laws.is_position, Laws.is_quad, Laws.IsWritableSoup}
-use Rattle.def_text.specs.{Types.Positions, declared.limits.TheConstants.MAX_MICRO, Text.numbers_to}
-use Rattle.def_layout.specs.{Gluings.Gluing, Gluings.Way, Gluings.south, Gluings.east, Gluings.north, Gluings.west}
-use Rattle.def_layout.specs.{Lengths.Lengths, Lengths.high, Lengths.AreLengths, Arcs.long_at, FaceLayouts.IsCutLayout}
-use Rattle.def_layout.specs.{Layouts.Layout, Layouts.gluing_of, Surfaces.IsSurface}
+use Rattle.written_laws.proofs.ModelCounts.{dart_used, new_quads, point_dart}
+use Rattle.def_text.specs.{Decimal.is_far, FaceSet.FaceSet, Types.Positions, declared.limits.TheConstants.MAX_MICRO}
+use Rattle.def_text.specs.Laws.{is_position, is_quad, IsWritableSoup}
+use Rattle.def_layout.specs.{Gluings.Gluing, Gluings.Way, Arcs.long_at, FaceLayouts.IsCutLayout, Layouts.Layout}
+use Rattle.def_layout.specs.Lengths.{Lengths, high, AreLengths}
 use Rattle.def_written.specs.NewFaces.{face_count, new_face, new_faces, cell_vertex}
 use Rattle.def_written.specs.{Numbers.vertices, Numbers.vertex_number, Laws.AreQuads}
-use Rattle.def_cut.specs.{FullCut.IsFullCut, Traced.traced_marks}
-use Rattle.def_remesh.specs.{NewPoints.old_vertex, NewPoints.point_at, NewSoup.coordinate, NewSoup.new_coordinate}
-use Rattle.def_remesh.specs.{NewSoup.spaced_place, NewSoup.spaced_soup, Spaced.spacing_by, TextLaws.IsSolid}
+use Rattle.def_remesh.specs.{NewPoints.point_at, Spaced.spacing_by, TextLaws.IsSolid}
 use Rattle.def_remesh.specs.{declared.limits.TheConstants.MAX_NEW_FACES, ReadAgain.IsReadable}
-use Rattle.map_laws.proofs.{Cells.is_point, OldPoints.spacing_is}
+use Rattle.def_remesh.specs.NewSoup.{coordinate, new_coordinate, spaced_place, spaced_soup}
 use Rattle.embedding_laws.proofs.Bounds.{vertices_few, laid_of, lengths_of}
-use Rattle.qm_obj.proofs.SoupLemmas.{length-numbers_to, numbers_rise}
+use Rattle.qm_obj.proofs.{SoupLemmas.length-numbers_to, SoupLemmas.numbers_rise}
+use Rattle.{std.proofs.lemmas.List.Sums.list_all-from_AllPass, def_text.specs.Text.numbers_to}
+use Rattle.{def_layout.specs.Layouts.gluing_of, def_layout.specs.Surfaces.IsSurface, def_cut.specs.FullCut.IsFullCut}
+use Rattle.{def_cut.specs.Traced.traced_marks, map_laws.proofs.Cells.is_point, map_laws.proofs.OldPoints.spacing_is}
 use Rattle.{def_mesh.specs.Faces.Faces, def_mesh.specs.Vertices.is_used, def_certtext.specs.Laws.IsPrintable}
 use Rattle.{def_layoutnet.specs.MeshLayouts.IsSomeLayout, site_laws.proofs.Laws.graph_law}
 
@@ -35,11 +34,7 @@ passes_range p n each = search (rules, list_all-from_AllPass, length-range_with_
 pub faces_pass : (l : Gluing) (x : Lengths) (p : ℕ → Bool) → ((f : ℕ) (w : Way) → f < face_count l x → p (cell_vertex l
     x f w) ≡ true) → list_all (λ face. list_all p face) (new_faces l x) ≡ true
 faces_pass l x p each = list_all-map (λ face. list_all p face) (new_face l x) (range_with_len 0 (face_count l x))
-    ∙ passes_range _ (face_count l x) (λ f low. and_from _ _ (each f south low) (and_from _ _ (each f east low)
-    (and_from _ _ (each f north low) (and_from _ _ (each f west low) refl))))
-
-pub quads_pass : (l : Gluing) (x : Lengths) → list_all is_quad (new_faces l x) ≡ true
-quads_pass l x = search (rules, list_all-map, passes_range)
+    ∙ passes_range _ (face_count l x) (search (rules, and_from))
 
 -- Each corner is a new vertex.
 pub corner_there : (l : Gluing) (x : Lengths) → IsSurface l → AreLengths l x → (f : ℕ) (w : Way)
@@ -99,22 +94,20 @@ module _ (soup : FaceSet) (solid : IsSolid soup) (layout : Layout) (is : IsSomeL
           (point_at (gluing_of layout) x v) axis)) ≡ true
       fine axis =
           let both = between_law (gluing_of layout) (long_at layout.arcs) x (spacing_by layout shares x)
-          (coordinate soup.faces layout soup.pos axis) (neg_ℤ (pos MAX_MICRO)) (pos MAX_MICRO)
-          (laid_of layout is) (lengths_of layout is) len (spacing_is layout is x len few shares)
-          (λ a at. coordinate_within soup.pos (old_vertex soup.faces layout a) axis solid.printable.positions)
-          (point_at (gluing_of layout) x v) (is_point (gluing_of layout) x v low) in
+          (coordinate soup.faces layout soup.pos axis) (neg_ℤ (pos MAX_MICRO)) (pos MAX_MICRO) (laid_of layout is)
+          (lengths_of _ is) len (spacing_is layout is x len few _) (λ a at. coordinate_within soup.pos _ axis
+          solid.printable.positions) (point_at (gluing_of layout) x v) (is_point (gluing_of layout) x v low) in
           near _ both.0 both.1
 
   pub printable : IsPrintable (spaced_soup soup layout shares x)
   printable = record {
-    positions = list_all-map is_position (spaced_place soup.faces layout soup.pos shares x)
-        (range_with_len 0 (vertices (gluing_of layout) x)) ∙ passes_range _ (vertices (gluing_of layout) x) place_fine;
-    quads = quads_pass (gluing_of layout) x;
-    corners = faces_pass (gluing_of layout) x (λ v. nat_lt v (2 ^ 32)) (λ f w low. lt-ltb _ _ (omega (
+    positions = list_all-map _ _ (range_with_len 0 (vertices (gluing_of layout) x)) ∙ passes_range _ _ place_fine;
+    quads = search (rules, list_all-map, passes_range);
+    corners = faces_pass (gluing_of layout) x _ (λ f w low. lt-ltb _ _ (omega (
       arith,
-      corner_there (gluing_of layout) x (laid_of layout is) len f w low,
+      corner_there _ x (laid_of _ is) len f w low,
       few,
-      vertices_few (gluing_of layout) x (laid_of layout is) len,
+      vertices_few _ x (laid_of _ is) len,
     )));
   }
 
@@ -148,7 +141,7 @@ module _ (soup : FaceSet) (layout : Layout) (shares : Option (List ℕ)) (x : Le
       increasing = numbers_rise (vertices (gluing_of layout) x);
     };
     positions = is.near;
-    quads = quads_pass (gluing_of layout) x;
+    quads = search (rules, list_all-map, passes_range);
     few_vertices = is.few_vertices;
     few_faces = is.few_faces;
   }

@@ -1,8 +1,8 @@
 -- Rounds of certificates, and the networks and the floors behind them.
 use Rattle.std.proofs.Common.{rules, ◌≡◌, ℕ, suc, ◌<◌, ◌≤◌, ◌==◌, List, [], ◌∷◌, ◌++◌, length, refl, ap, ◌∙◌, arith}
 use Rattle.std.proofs.Common.{◌^◌, true, None, Ok, sym, subst, append_assoc, ◌↔◌, drop, filter}
-use Rattle.std.proofs.{lemmas.Bool.cond_both, lemmas.Bool.and_from, lemmas.Bool.le-leb, lemmas.Bool.lt-ltb}
-use Rattle.std.proofs.{lemmas.Int.ints, lemmas.List.append-nil}
+use Rattle.std.proofs.lemmas.Bool.{cond_both}
+use Rattle.std.proofs.lemmas.List.{append-nil}
 use Rattle.def_certtext.specs.CertLines.{alone, lists_of, raised, risen, risen_by, used, Certificates, Lists, text_of}
 use Rattle.def_certtext.specs.{declared.certs.Rise.Rise, declared.certs.Rising.Rising}
 use Rattle.def_certtext.specs.{declared.certs.Rising.TheVariants.Rounds, declared.certs.Round.Round, Laws.AreWritable}
@@ -90,11 +90,6 @@ risen_some [] floors arc rose some = some
 risen_some (rise ∷ rises) floors arc rose some = cond_both (arc == rise.arc) _ _ (λ (n : ℕ). 1 ≤ n)
     (λ on. rose 0 (omega arith)) (λ off. risen_some rises floors arc (λ k low. rose (suc k) (omega (arith, low))) some)
 
--- So needed ones leave none at 0.
-pub needed_some : (layout : Layout) (xs : List ℕ) (rises : List Rise) (floors : Lengths) → AreNeeded (gluing_of layout)
-    (lengths_in xs) rises → ((arc : ℕ) → 1 ≤ floors arc) → (arc : ℕ) → 1 ≤ risen_floors rises floors arc
-needed_some layout xs rises floors needed some arc = search (rules, risen_some)
-
 -- ---- Networks.
 
 -- The network with other floors.
@@ -109,9 +104,8 @@ pub net_risen : {wish : Wish} {floors : Lengths} (layout : Layout) (settings : S
     Rise) (net next : Network) → IsNetWith wish layout settings floors net → AreNeeded (gluing_of layout) (lengths_in
     xs) rises → HasFloors net (risen_floors rises (floor_of net.arcs)) next → IsNetWith wish layout settings
     (risen_floors rises floors) next
-net_risen {wish} {floors} layout settings xs rises net next for needed has = raised_net layout settings
-    (risen_floors rises floors) net next (needed_some layout xs rises floors needed for.floor) high
-    for (record {
+net_risen {wish} {floors} layout settings xs rises net next for needed has = raised_net _ _ _ _ _
+    (search (rules, risen_some)) high for (record {
       nodes = has.nodes;
       p = has.p;
       q = has.q;
@@ -135,9 +129,7 @@ pub certified_lengths : {wish : Wish} {floors : Lengths} (layout : Layout) (sett
     → ((arc : ℕ) → 1 ≤ floors arc) → HasLeastLengths wish layout settings floors cert
     → AreLengths (gluing_of layout) (lengths_in cert.x)
 certified_lengths layout settings cert floor is =
-    let some : (a : ℕ) → a < length layout.arcs → 0
-    < slice_index cert.x a = λ a low. let high = is.least.admissible.high a (omega (arith, low, is.of_layout.long)) in
-    omega (arith, ints, high, floor a, is.of_layout.floors a low) in
+    let some : (a : ℕ) → a < length layout.arcs → 0 < slice_index cert.x a = search rules in
     (opposite_law (gluing_of layout) (lengths_in cert.x) some).1 is.opposite
 
 -- So are those that are used, after each round.
@@ -147,7 +139,7 @@ lengths_behind : (wish : Wish) (layout : Layout) (settings : Settings) (rising :
 lengths_behind wish layout settings rising (alone cert) floors some kept = search (rules, certified_lengths)
 lengths_behind wish layout settings rising (raised first cert) floors some kept = search (rules, certified_lengths)
 lengths_behind wish layout settings rising (risen first rises after) floors some kept = lengths_behind wish layout
-    settings rising after (risen_floors rises floors) (needed_some layout first.x rises floors kept.2 some) kept.3
+    settings rising after (risen_floors rises floors) (search (rules, risen_some)) kept.3
 
 pub used_lengths : (wish : Wish) (layout : Layout) (settings : Settings) (rising : Rising) (certificates : Certificates)
     → 1 ≤ settings.floor → AreKeptBy (HasLeastLengths wish layout settings) layout (given_floors settings) rising
@@ -169,8 +161,7 @@ all_told : (rises : List Rise) → ((k : ℕ) → k < length rises → ((rise_at
 all_told [] each = refl
 all_told (rise ∷ rises) each =
     let first : (rise.arc < 2 ^ 32) × (rise.floor ≤ MAX_FLOOR) = each 0 (omega arith) in
-    and_from _ _ (and_from _ _ (lt-ltb _ _ first.0) (le-leb _ _ first.1))
-    (all_told rises (λ k low. each (suc k) (omega (arith, low))))
+    search (rules, all_told rises (λ k low. each (suc k) (omega (arith, low))))
 
 pub kept_writable : (wish : Wish) (layout : Layout) (settings : Settings) (rising : Rising) (certificates :
     Certificates) (floors : Lengths) → IsSomeLayout layout → AreKeptBy (HasLeastLengths wish layout settings) layout
@@ -199,8 +190,7 @@ framed front behind soup is names before after =
     let lines = lines_append front (canonical_text soup ++ behind) before.ended
     ∙ ap (λ (ls : Lines). lines_of front ++ ls) (lines_append (canonical_text soup) behind (canonical_ends soup)) in
     ap (text_soup 1) lines ∙ passed_over (lines_of front) (lines_of (canonical_text soup)) (lines_of behind) soup
-    before.each (canonical_whole soup is) after
-    (text_back soup is ∙ ap Ok (λ i. record { pos = soup.pos; faces = soup.faces; names = sym names i }))
+    before.each (canonical_whole soup is) after (text_back soup is ∙ ap Ok (search rules))
 
 -- The lines of certificates that can be written may stand.
 pub kept_allowed : (wish : Wish) (layout : Layout) (settings : Settings) (rising : Rising) (certificates : Certificates)
@@ -231,24 +221,17 @@ task_read task soup layout certificates mesh len kept head between is =
     let certs = text_of (certificate_lines task.rising certificates) in
     let behind = subst ArePassed (sym (lines_append (task.between layout new) certs between.ended))
     (each_both IsPassedOver (lines_of (task.between layout new)) (lines_of certs) [] between.each
-    (cert_lines_passed task.rising (certificate_lines task.rising certificates)
-    (kept_allowed task.wish layout task.settings task.rising certificates mesh kept))) in
+    (cert_lines_passed task.rising (certificate_lines task.rising certificates) (search (rules, kept_allowed)))) in
     ap soup_in (sym (append_assoc task.head (10 ∷ []) _)) ∙ framed (task.head ++ 10 ∷ [])
-    (task.between layout new ++ certs) (spaced_soup soup layout task.shares new)
-    (writable soup layout task.shares new (laid_of layout mesh) len is)
-    (new_names soup layout task.shares new (laid_of layout mesh) len) head behind
+    (task.between layout new ++ certs) (spaced_soup soup layout task.shares new) (writable soup layout task.shares new
+    (laid_of layout mesh) len is) (new_names soup layout task.shares new (laid_of layout mesh) len) head behind
 
 pub read_again_law : ReadAgainLaw
 read_again_law settings auto soup text range solid is few_vertices few_faces =
     let mesh = mesh_layout soup is.layout solid is.cut in
     let lengths = used_lengths _ is.layout settings (third_if auto) is.certificates range.floor.low is.lengths in
     ap soup_in is.written ∙ task_read (remesh_task settings auto soup.faces) soup is.layout is.certificates mesh lengths
-    is.lengths (head_aside settings auto range) none_aside (record {
-      near = (printable soup solid is.layout mesh None (lengths_in (used is.certificates).x) lengths
-          is.coarse).positions;
-      few_vertices = few_vertices;
-      few_faces = few_faces;
-    })
+    is.lengths (head_aside settings auto range) none_aside (search (rules, printable))
 
 -- The text of a finished task tells its certificates, and no others.
 
@@ -293,8 +276,7 @@ module _ (task : Task) (soup : FaceSet) (layout : Layout) (certificates : Certif
   pub task_told : (other : Certificates) → TellCerts task.rising (drop 1 (lines_of (finished_text task soup layout
       certificates))) other ↔ (other ≡ certificates)
   task_told other =
-      let told = certs_told task.rising new certificates fine (kept_writable task.wish layout task.settings task.rising
-      certificates (given_floors task.settings) mesh kept) other in
+      let told = certs_told task.rising new certificates fine (search (rules, kept_writable)) other in
       (λ tells. told.0 (tells_same _ _ _ other marked tells), λ same. tells_same _ _ _ other (sym marked) (told.1 same))
 
 -- The text of a finished remesh tells its settings and its certificates, and no others.
@@ -302,9 +284,7 @@ module _ (task : Task) (soup : FaceSet) (layout : Layout) (certificates : Certif
 pub told_law : ToldLaw
 told_law settings auto soup text range solid is =
     let mesh = mesh_layout soup is.layout solid is.cut in
-    let fine : IsPrintable (spaced_soup soup is.layout None (lengths_in (used is.certificates).x)) = printable soup
-    solid is.layout mesh None (lengths_in (used is.certificates).x)
-    (used_lengths _ is.layout settings (third_if auto) is.certificates range.floor.low is.lengths) is.coarse in
-    rw is.written (written_law settings
-    auto (spaced_soup soup is.layout None (lengths_in (used is.certificates).x)) is.certificates range fine
-    (kept_writable _ is.layout settings (third_if auto) is.certificates (given_floors settings) mesh is.lengths))
+    let fine : IsPrintable (spaced_soup soup is.layout None (lengths_in (used is.certificates).x))
+    = search (rules, printable, used_lengths) in
+    rw is.written (written_law settings auto (spaced_soup soup is.layout None (lengths_in (used is.certificates).x))
+    is.certificates range fine (search (rules, kept_writable)))

@@ -2,8 +2,7 @@
 use Rattle.std.proofs.Common.{rules, ◌≡◌, ℕ, zero, suc, ◌^◌, ◌<◌, ◌≤◌, Bool, true, List, [], ◌∷◌, ◌++◌, length, map}
 use Rattle.std.proofs.Common.{take, drop, refl, sym, ◌∙◌, arith, ℤ, ap}
 use Rattle.std.proofs.lemmas.Bool.{and_from, and_parts, le-leb, leb-true, lt-ltb}
-use Rattle.std.proofs.{lemmas.Bool.Decides.nat_tests, lemmas.List.take-append-drop, lemmas.List.Folds.list_all-append}
-use Rattle.std.proofs.{lemmas.List.Folds.list_all-map}
+use Rattle.std.proofs.{lemmas.List.take-append-drop, lemmas.List.Folds.list_all-append, lemmas.List.Folds.list_all-map}
 use Rattle.std.specs.{List.list_all, Prelude.nat_lt, Prelude.slice_index}
 use Rattle.def_certtext.specs.{CertLines.dual_lines, CertLines.Lists, Laws.IsWritableCert, Reading.is_small}
 use Rattle.def_certtext.specs.{Reading.may_stand, declared.CertLine.CertLine, declared.certs.Rising.TheVariants.Never}
@@ -13,14 +12,13 @@ use Rattle.def_flow.specs.{declared.limits.TheConstants.MAX_TANGLE, declared.net
 use Rattle.def_layout.specs.{Layouts.Layout, Layouts.gluing_of, Lengths.Lengths}
 use Rattle.def_layoutnet.specs.{LayoutNet.IsNetOf, MeshLayouts.IsSomeLayout}
 use Rattle.def_remesh.specs.{Certified.certificate_of, Certified.IsCertified, Tasks.old_lengths, Tasks.Wish}
-use Rattle.{def_matching.specs.Dual.is_up, def_matching.specs.Dual.AreSmall, qm_layoutnet.proofs.Balance.balance_law}
+use Rattle.{def_matching.specs.Dual.AreSmall, qm_layoutnet.proofs.Balance.balance_law}
 use Rattle.{embedding_laws.proofs.Bounds.laid_of, gadget_laws.proofs.Arcs.sound}
 use Rattle.def_certtext.specs.declared.CertLine.TheVariants as lines
 
 -- What passes in a list passes in each front and in each tail of it.
 pub all_take : {X : Type 0} (p : X → Bool) (n : ℕ) (xs : List X) → list_all p xs ≡ true → list_all p (take n xs) ≡ true
-all_take p n xs all = (and_parts _ _ (sym (list_all-append p (take n xs) (drop n xs))
-    ∙ (ap (list_all p) (take-append-drop n xs) ∙ all))).0
+all_take p n xs all = (and_parts _ _ (sym (list_all-append p _ _) ∙ (ap (list_all p) (take-append-drop n xs) ∙ all))).0
 
 pub all_drop : {X : Type 0} (p : X → Bool) (n : ℕ) (xs : List X) → list_all p xs ≡ true → list_all p (drop n xs) ≡ true
 all_drop p n xs all = (and_parts _ _ (sym (list_all-append p (take n xs) (drop n xs))
@@ -43,21 +41,12 @@ each_passes p [] each = refl
 each_passes p (x ∷ xs) each =
     and_from _ _ (each 0 (omega arith)) (each_passes p xs (λ k l. each (suc k) (omega (arith, l))))
 
--- An entry that nests names one of the sets, or none.
-up_low : (n m i e : ℕ) → is_up n m i e ≡ true → e ≤ m
-up_low n m i e on = grind (arith, nat_tests)
-
 pub certified : (wish : Wish) (layout : Layout) (settings : Settings) (floors : Lengths) (net : Network) (cert : Lists)
     → IsSomeLayout layout → IsNetOf (gluing_of layout) (old_lengths layout) (wish layout) settings floors net
     → IsWithinBounds net → tangle_number net ≤ MAX_TANGLE → IsSolution net (certificate_of cert)
     → IsCertified wish layout settings floors cert
 certified wish layout settings floors net cert is of_layout bounds untangled solved =
-    let low = each_passes (λ u. nat_lt u (2 ^ 32)) cert.up (λ k l. lt-ltb _ _ (omega (
-      arith,
-      solved.small.sets,
-      up_low _ (length cert.z) k (slice_index cert.up k)
-          (solved.accepted.yes.nested.later k (omega (arith, l, solved.accepted.yes.nested.entries))),
-    ))) in
+    let low = each_passes (λ u. nat_lt u (2 ^ 32)) cert.up (search rules) in
     let vertices = dual_lines lines.Vertex cert.y (take (length cert.y) cert.up) in
     let sets = dual_lines lines.Set cert.z (drop (length cert.y) cert.up) in
     let arcs = map lines.Length cert.x in
@@ -65,8 +54,7 @@ certified wish layout settings floors net cert is of_layout bounds untangled sol
     Never) arcs vertices ∙ and_from _ _ (list_all-map (may_stand Never) lines.Length cert.x ∙ each_passes (λ n.
     may_stand Never (lines.Length n)) cert.x (λ k l. le-leb _ MAX_LENGTH (solved.lengths.small k l))) (numbered_stand
     lines.Vertex (λ z u. refl) cert.y (take (length cert.y) cert.up) solved.small.small_y (all_take _ (length cert.y)
-    cert.up low))) (numbered_stand lines.Set (λ z u. refl) cert.z (drop (length cert.y) cert.up) solved.small.small_z
-    (all_drop _ (length cert.y) cert.up low)) in
+    cert.up low))) (search (rules, numbered_stand, all_drop)) in
     record {
       lengths = record {
         net = net;
@@ -76,10 +64,7 @@ certified wish layout settings floors net cert is of_layout bounds untangled sol
         opposite = (balance_law (gluing_of layout) (old_lengths layout) (wish layout) settings floors net
             (laid_of layout is) of_layout (entries cert.x)).0 solved.accepted.admissible.balanced;
         least = sound net (certificate_of cert) bounds solved.accepted;
-        writable = record {
-          ups = omega (arith, solved.accepted.yes.nested.entries, solved.accepted.yes.numbers);
-          allowed = allowed;
-        };
+        writable = search rules;
       };
       accepted = solved.accepted;
     }

@@ -1,15 +1,9 @@
 -- The lines of the tail of a text are its last lines.
 use Rattle.std.proofs.Common.{rules, ◌≡◌, ℕ, zero, suc, ◌+◌, [], ◌∷◌, drop, map, slice_index_or, refl, sym, ◌∙◌, ap}
-use Rattle.std.proofs.Common.{arith, ◌<◌, true, ◌++◌, length}
+use Rattle.std.proofs.Common.{arith, true, ◌++◌, length}
 use Rattle.std.proofs.lemmas.List.{drop-drop, drop-map, get_or-drop, length-map, map-append}
 use Rattle.{std.proofs.Math.Seq.drop-append_seam, std.specs.List.flat_map, def_remesh.specs.ReadAgain.ends_line}
-use Rattle.def_io.specs.{Bytes.Bytes, Bytes.Lines, Lines.byte_in_front, Lines.pieces, Lines.line_of, Lines.lines_of}
-use Rattle.def_io.specs.{Lines.tail_of}
-
--- The byte in front stands in front of all.
-flat-in_front : (b : ℕ) (ps : Lines) → flat_map (λ p. p) (byte_in_front b ps) ≡ b ∷ flat_map (λ p. p) ps
-flat-in_front b [] = refl
-flat-in_front b (p ∷ ps) = refl
+use Rattle.def_io.specs.{Bytes.Bytes, Bytes.Lines, Lines.pieces, Lines.line_of, Lines.lines_of, Lines.tail_of}
 
 -- The pieces joined are the text.
 pub flat-pieces : (bs : Bytes) → flat_map (λ p. p) (pieces bs) ≡ bs
@@ -35,10 +29,6 @@ tail_behind i bs = ap (λ (ls : Lines). drop 1 ls) (lines-tail i bs) ∙ drop-dr
 
 -- The lines of two texts behind each other, of which the first ends with a line feed.
 
--- Some bytes have some piece.
-some_piece : (byte : ℕ) (bytes : Bytes) → 0 < length (pieces (byte ∷ bytes))
-some_piece byte bytes = search rules
-
 -- A byte stands in front of the first piece, whatever is behind.
 pieces_append : (bytes rest : Bytes) → ends_line bytes ≡ true → pieces (bytes ++ rest) ≡ pieces bytes ++ pieces rest
 pieces_append [] rest ends = refl
@@ -47,8 +37,7 @@ pieces_append (byte ∷ next ∷ bytes) rest ends = search (rules, pieces_append
 
 -- The lines are those of both.
 pub lines_append : (old text : Bytes) → ends_line old ≡ true → lines_of (old ++ text) ≡ lines_of old ++ lines_of text
-lines_append old text ends = ap (map line_of) (pieces_append old text ends)
-    ∙ map-append line_of (pieces old) (pieces text)
+lines_append old text ends = ap (map line_of) (pieces_append old _ ends) ∙ map-append _ _ _
 
 -- The tail behind the lines of the first is the second.
 pub tail_append : (old text : Bytes) → ends_line old ≡ true → tail_of (length (lines_of old)) (old ++ text) ≡ text

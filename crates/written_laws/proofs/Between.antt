@@ -8,9 +8,9 @@ use Rattle.sum_laws.proofs.Sums.{times_sum}
 use Rattle.def_layout.specs.Lengths.{Lengths, reach, size, wide, high, AreLengths}
 use Rattle.def_layout.specs.{Gluings.Way, Gluings.south, Gluings.east, Gluings.north, Gluings.west, Gluings.Gluing}
 use Rattle.def_layout.specs.{declared.tmesh.SideArc.SideArc, Surfaces.IsSurface, Cells.dart}
-use Rattle.def_written.specs.Points.{Point, node, along, inside, IsPoint, arc_point, use_over, offset_at, point}
+use Rattle.def_written.specs.Points.{Point, node, along, inside, IsPoint, arc_point, use_over, offset_at}
 use Rattle.def_written.specs.Places.{Coordinate, on_the_way, ONE, parameter, parameter_back, parameter_u, parameter_v}
-use Rattle.def_written.specs.Places.{cell_at, rest_at, blend, place_of, ArcSpacing, Step}
+use Rattle.def_written.specs.Places.{cell_at, blend, place_of, ArcSpacing, Step}
 use Rattle.def_written.specs.Edges.{on_arc, Edge, IsEdge, edge_start, edge_end, HasEnds, IsUndoubled}
 use Rattle.def_written.specs.{NewFaces.dart_start, Spacings.IsSpacing, Laws.BetweenLaw, Numbers.vertex_number}
 use Rattle.written_laws.proofs.{Spacings.count_rises, Sides.IsOn, Sides.place_on, Sides.long_at, Rims.wide_some}
@@ -53,7 +53,6 @@ way_within p q least greatest r x le some p_low p_high q_low q_high =
     let split : 2 * x ≡ 2 * r + 2 * (x - r) = omega arith in
     let least_split = ap (λ n. pos n *ℤ (least -ℤ p)) split ∙ sum_times (2 * r) (2 * (x - r)) (least -ℤ p) in
     let greatest_split = ap (λ n. pos n *ℤ (greatest -ℤ p)) split ∙ sum_times (2 * r) (2 * (x - r)) (greatest -ℤ p) in
-    let z : (2 * (x - r)) * 0 ≡ 0 = omega arith in
     let low = times_le (2 * r) (least -ℤ p) (q -ℤ p) (omega (arith, ints)) in
     let low_rest = times_le (2 * (x - r)) (least -ℤ p) (pos 0) (omega (arith, ints)) in
     let high = times_le (2 * r) (q -ℤ p) (greatest -ℤ p) (omega (arith, ints)) in
@@ -95,17 +94,12 @@ blend_within s t a b c d least greatest s_le t_le a_low b_low c_low d_low a_high
 
     total : (z : ℤ) → ((pos ((ONE - s) * (ONE - t)) *ℤ z) +ℤ (pos (s * (ONE - t)) *ℤ z)) +ℤ
         ((pos ((ONE - s) * t) *ℤ z) +ℤ (pos (s * t) *ℤ z)) ≡ pos (2 ^ 64) *ℤ z
-    total z = (λ k. sym (sum_times ((ONE - s) * (ONE - t)) (s * (ONE - t)) z) k +ℤ sym
-        (sum_times ((ONE - s) * t) (s * t) z) k) ∙ sym
+    total z = (search (rules, sum_times)) ∙ sym
         (sum_times ((ONE - s) * (ONE - t) + s * (ONE - t)) ((ONE - s) * t + s * t) z) ∙ ap (λ n. pos n *ℤ z) weights
 
 -- A quotient of naturals is at most a number whose product is not less.
 pub div_most : (n k d : ℕ) → 0 < d → n ≤ k * d → n / d ≤ k
 div_most n k d some le = search rules
-
--- An old column or row, and what is left of a parameter in it.
-pub rest_most : (n u : ℕ) → 0 < n → u ≤ ONE * n → rest_at n u ≤ ONE
-rest_most n u some le = omega arith
 
 module _ {l : Gluing} {old new : Lengths} {spacing : ArcSpacing} (laid : IsSurface l) (o_len : AreLengths l old)
     (n_len : AreLengths l new) (spaced : IsSpacing l old new spacing) where
@@ -126,9 +120,8 @@ module _ {l : Gluing} {old new : Lengths} {spacing : ArcSpacing} (laid : IsSurfa
       let reaches = ap (reach l old p s) one in
       let used : SideArc = l.use_at p s (use_over l new p s t) in
       let low = laid.paved.arc_low (record { patch = p; side = s; at = use_over l new p s t }) on.is_slot in
-      let part = arc_most used.arc used.forward (offset_at l new p s t) low (omega (arith, on.inside)) in
       let rest = arc_most used.arc (not used.forward) (new used.arc - offset_at l new p s t) low (omega arith) in
-      (omega (arith, upto, part), omega (arith, upto, reaches, rest))
+      (omega (arith, upto), omega (arith, upto, reaches, rest))
 
   -- A mean of parameters is no greater.
   mean_most : (a b m h j : ℕ) → 0 < h → j ≤ h → a ≤ m → b ≤ m → (a * (h - j) + b * j) / h ≤ m
@@ -147,32 +140,28 @@ module _ {l : Gluing} {old new : Lengths} {spacing : ArcSpacing} (laid : IsSurfa
   place_within at least greatest bound (node n) is = bound (node n) is
   place_within at least greatest bound (along a k) is =
       let step : Step = spacing.step a k in
-      let ends = edge_points l old laid o_len (on_arc a step.edge) (is.0, spaced.edges a k is.0 is.2) in
+      let ends = edge_points l _ laid o_len (on_arc a _) (is.0, spaced.edges a k is.0 is.2) in
       let part : step.some < step.parts = spaced.parts a k is.0 is.2 in
       let p = bound (arc_point l old a step.edge) ends.0 in
       let q = bound (arc_point l old a (step.edge + 1)) ends.1 in
-      way_within (at (arc_point l old a step.edge)) (at (arc_point l old a (step.edge + 1))) least greatest step.some
-      step.parts (omega (arith, part)) (omega (arith, part)) p.0 p.1 q.0 q.1
+      way_within _ _ _ _ _ _ (omega (arith, part)) (omega (arith, part)) p.0 p.1 q.0 q.1
   place_within at least greatest bound (inside p i j) is =
       let u = parameter_u l old new spacing p i j in
       let v = parameter_v l old new spacing p i j in
       let a = cell_at (wide l old p) u in
       let b = cell_at (high l old p) v in
-      let w_some = wide_some l old laid.paved o_len p is.0 in
-      let h_some = high_some l old laid.paved o_len p is.0 in
-      let corner = λ (w : Way). bound (dart_start l old (dart p a b w)) (from_is l old laid o_len (dart p a b w)
-      (record { patch_low = is.0; i_low = omega (arith, w_some); j_low = omega (arith, h_some) })) in
+      let w_some = wide_some l _ laid.paved o_len p is.0 in
+      let h_some = high_some l _ laid.paved o_len p is.0 in
+      let corner = λ (w : Way). bound (dart_start l old (dart p a b w)) (from_is l _ laid o_len (dart p a b w)
+      (search rules)) in
       let north_le = (sides_most p north (wide l new p - i) is.0 (omega (arith, is.1, is.2, n_len.across p is.0))).1 in
       let u_most : u ≤ ONE * wide l old p = mean_most _ _ _ _ j (omega arith) (omega arith)
-      (sides_most p south i is.0 is.2).0 (omega (arith, o_len.across p is.0, north_le)) in
+      (sides_most p _ i is.0 is.2).0 (omega (arith, o_len.across p is.0, north_le)) in
       let east_le = (sides_most p east j is.0 (omega (arith, is.4, n_len.upright p is.0))).0 in
       let v_most : v ≤ ONE * high l old p = mean_most _ _ _ _ i (omega arith) (omega arith)
-      (sides_most p west _ is.0 (omega arith)).1 (omega (arith, o_len.upright p is.0, east_le)) in
-      blend_within (rest_at (wide l old p) u) (rest_at (high l old p) v) (at (point l old p a b))
-      (at (point l old p (a + 1) b)) (at (point l old p a (b + 1))) (at (point l old p (a + 1) (b + 1))) least greatest
-      (rest_most (wide l old p) u w_some u_most) (rest_most (high l old p) v h_some v_most) (corner south).0
-      (corner east).0 (corner west).0 (corner north).0 (corner south).1 (corner east).1 (corner west).1
-      (corner north).1
+      (sides_most p _ _ is.0 (omega arith)).1 (omega (arith, o_len.upright p is.0, east_le)) in
+      blend_within _ _ _ _ _ _ _ _ (omega arith) (omega arith) (corner south).0
+      (corner east).0 (corner west).0 (corner north).0 (corner south).1 (corner east).1 (corner west).1 (corner north).1
 
 pub between_law : BetweenLaw
 between_law l old new spacing at least greatest laid o_len n_len spaced =
@@ -208,8 +197,7 @@ module _ (l : Gluing) (x : Lengths) where
     pub undoubled_from : IsSimple l x → IsUndoubled l x
     undoubled_from simple u v doubled = elim doubled.1 [
       | inl h ↦ looped h.1.0 h.1.1 h.1.2
-      | inr h ↦ h.4
-          (paired h.0 h.1 (edge_points l x laid len h.0 h.2) (edge_points l x laid len h.1 h.3) h.2 h.3 h.5 h.6)
+      | inr h ↦ h.4 (paired h.0 h.1 (edge_points l x laid len _ h.2) (edge_points l x laid len _ h.3) h.2 h.3 h.5 h.6)
     ]
       where
         same : {a b : Point} {k : ℕ} → IsPoint l x a → IsPoint l x b → vertex_number l x a ≡ k → vertex_number l x b ≡ k

@@ -1,19 +1,17 @@
 -- Border darts by the slots whose arcs they lie on, and the darts at a place of an arc.
 use Rattle.std.proofs.Common.{rules, ◌≡◌, ◌≢◌, ◌⊎◌, ℕ, ◌+◌, ◌-◌, ◌<◌, ◌≤◌, Bool, true, false, cond, refl, sym, ◌∙◌, ap}
-use Rattle.std.proofs.Common.{inl, inr, arith}
 use Rattle.def_layout.specs.Gluings.{Way, side_before, Gluing, Slot, IsSlot, AreReverse, use_of, slot_before, south}
 use Rattle.def_layout.specs.Gluings.{east, north, west}
-use Rattle.def_layout.specs.Lengths.{Lengths, reach, size, AreLengths, wide, high}
-use Rattle.def_layout.specs.{Cells.CellDart, Cells.IsDart, Cells.next, Cells.dart_along, Cells.slot_dart}
 use Rattle.def_layout.specs.{declared.tmesh.SideArc.SideArc, Surfaces.HasWholeSides, Surfaces.IsSurface}
-use Rattle.def_written.specs.Points.{inside, IsPoint, arc_point, use_point, use_over, offset_at, side_point, Point}
-use Rattle.def_written.specs.Points.{point}
+use Rattle.def_layout.specs.Lengths.{Lengths, reach, size, AreLengths, wide, high}
+use Rattle.def_layout.specs.Cells.{CellDart, IsDart, next, dart_along, slot_dart}
+use Rattle.def_written.specs.Points.{inside, IsPoint, use_point, use_over, offset_at, side_point, Point, point}
 use Rattle.def_written.specs.Edges.{Edge, on_arc, flat, steep, IsEdge, edge_start, edge_end}
-use Rattle.def_written.specs.NewFaces.{dart_start, dart_end}
 use Rattle.written_laws.proofs.Sides.{slot, use_sort, place_on, side_in, side_upto, reach_low}
-use Rattle.written_laws.proofs.Rims.{column_of, row_of, IsWithin, rim_is, rim_from, rim_to, rim_ahead, on_rim, IsInner}
-use Rattle.written_laws.proofs.Rims.{inner_at, next_prev, point_inside}
-use Rattle.written_laws.proofs.NewDarts.{next_is, prev_is}
+use Rattle.written_laws.proofs.{Rims.next_prev, Rims.point_inside, NewDarts.next_is, NewDarts.prev_is}
+use Rattle.written_laws.proofs.Rims.{column_of, row_of, IsWithin, rim_is, rim_from, rim_to, on_rim, IsInner, inner_at}
+use Rattle.{std.proofs.Common.inl, std.proofs.Common.inr, std.proofs.Common.arith}
+use Rattle.{def_written.specs.NewFaces.dart_start, def_written.specs.NewFaces.dart_end}
 
 -- The place on its side that lies o after the beginning of a slot's arc.
 abbrev pub place_at : (l : Gluing) (x : Lengths) (w : Slot) (o : ℕ) → ℕ
@@ -30,12 +28,8 @@ module _ (l : Gluing) (x : Lengths) where
       → use_point l x v k ≡ use_point l x u (x u.arc - k)
   use_back u v rev k le = search rules
 
-  -- A point of an arc does not lie inside a patch, and along an arc it tells its place.
-  pub arc_not_inside : (a k p i j : ℕ) → arc_point l x a k ≢ inside p i j
-  arc_not_inside a k p i j = search rules
-
   pub use_not_inside : (u : SideArc) (o p i j : ℕ) → use_point l x u o ≢ inside p i j
-  use_not_inside u o p i j e = arc_not_inside u.arc (cond u.forward o (x u.arc - o)) p i j e
+  use_not_inside u o p i j e = search rules
 
   pub side_not_inside : (q : ℕ) (s : Way) (t p i j : ℕ) → side_point l x q s t ≢ inside p i j
   side_not_inside q s t p i j e = use_not_inside (l.use_at q s (use_over l x q s t)) (offset_at l x q s t) p i j e
@@ -71,23 +65,19 @@ module _ (l : Gluing) (x : Lengths) where
       | inl i ↦ inl i
       | inr (s, t, less, e) ↦
           let on = place_on l x d.patch s t is.patch_low less in
-          let b : IsOnBorder d (slot d.patch s (use_over l x d.patch s t)) (offset_at l x d.patch s t) =
-          record { is_slot = on.is_slot; low = on.inside; dart = cc } in
-          inr (_, _, b)
+          search rules
     ]
 
     -- and leaves a grid point inside its patch or a place of an arc.
     pub sort_spot : (d : CellDart) → IsDart l x d → IsInner paved len d.patch (column_of d) (row_of d)
         ⊎ ((w : Slot) × (o : ℕ) × (b : Bool) × IsSpot d w o b)
     sort_spot d is = elim (sees is) [
-      | inr (w, o, b) ↦
-          inr (w, o, false, search rules)
+      | inr (w, o, b) ↦ inr (w, o, false, search rules)
       | inl i ↦ elim (on_rim paved len d.patch d.i d.j (side_before d.way) (prev_is l x d is)) [
         | inl before ↦ inl (inner_at paved len d.patch d.i d.j d.way i before)
         | inr (s, t, less, e) ↦
             let here : d ≡ next (dart_along l x d.patch s t) = sym (next_prev d) ∙ ap next e in
-            let on = place_on l x d.patch s (t + 1) is.patch_low
-            (rim_ahead paved len d.patch s t is.patch_low less (rw here at i)) in
+            let on = place_on l x d.patch s (t + 1) is.patch_low (search rules) in
             let back : t ≡ reach l x d.patch s (use_over l x d.patch s (t + 1)) + offset_at l x d.patch s (t + 1) - 1 =
             omega (arith, on.place) in
             let dart = here ∙ ap (λ n. next (dart_along l x d.patch s n)) back in
@@ -98,9 +88,6 @@ module _ (l : Gluing) (x : Lengths) where
     ]
 
   module _ (laid : IsSurface l) (len : AreLengths l x) where
-    use_is_point : (w : Slot) (o : ℕ) → IsSlot l w → o < x (use_of l w).arc → IsPoint l x (use_point l x (use_of l w) o)
-    use_is_point w o is less = search (rules, use_sort)
-
     pub at_from : (w : Slot) (o : ℕ) → IsSlot l w → o < x (use_of l w).arc
         → dart_start l x (slot_dart l x w o) ≡ use_point l x (use_of l w) o
     at_from w o is less = search (rules, rim_from, at_low, side_in)
@@ -117,8 +104,7 @@ module _ (l : Gluing) (x : Lengths) where
         → dart_start l x (spot_dart l x w o b) ≡ use_point l x (use_of l w) o) [
           | false ↦ λ some. at_from w o s.is_slot s.low
           | true ↦ λ some. let one : place_at l x w o - 1 + 1 ≡ place_at l x w o = omega (arith, some refl) in
-              rim_to l x laid len w.patch w.side (place_at l x w o - 1) s.is_slot.patch_low
-              (omega (arith, at_low laid.paved len o s.is_slot s.low))
+              rim_to l x laid len _ _ _ s.is_slot.patch_low (omega (arith, at_low laid.paved len o s.is_slot s.low))
               ∙ ap (side_point l x w.patch w.side) one ∙ side_in l x o s.is_slot s.low
         ]) s.behind
 
@@ -139,7 +125,7 @@ module _ (l : Gluing) (x : Lengths) where
     pub from_is : (d : CellDart) → IsDart l x d → IsPoint l x (dart_start l x d)
     from_is d is = elim (sort_spot laid.paved len d is) [
       | inl i ↦ rw (inner_from d i) (search rules)
-      | inr (w, o, b, s) ↦ rw (spot_from s) (use_is_point w o s.is_slot s.low)
+      | inr (w, o, b, s) ↦ rw (spot_from s) (search (rules, use_sort))
     ]
 
 -- The edges at an inner point of a patch, by the directions in which they leave it.
@@ -222,8 +208,8 @@ module _ (l : Gluing) (x : Lengths) where
     -- An edge with an end inside a patch is a spoke from there.
     pub hub_edge : (f : Edge) (p i j : ℕ) (t : Point) → IsEdge l x f → Joins f (inside p i j) t
         → (w : Way) × (f ≡ spoke p i j w) × (t ≡ tip p i j w)
-    hub_edge (on_arc a k) p i j t is (inl s) = absurd (arc_not_inside l x a k p i j s.0)
-    hub_edge (on_arc a k) p i j t is (inr s) = absurd (arc_not_inside l x a (k + 1) p i j s.1)
+    hub_edge (on_arc a k) p i j t is (inl s) = absurd (search rules)
+    hub_edge (on_arc a k) p i j t is (inr s) = absurd (search rules)
     hub_edge (flat q k m) p i j t is (inl s) =
         let e = point_sort q k m p i j is.0 (omega (arith, is.1)) (omega (arith, is.3)) s.0 in (east, cc, cc)
     hub_edge (flat q k m) p i j t is (inr s) =
@@ -237,10 +223,7 @@ module _ (l : Gluing) (x : Lengths) where
 
     -- A spoke has no equal ends.
     pub loop_at : (e : Edge) (p i j : ℕ) (w : Way) → Inner p i j → e ≡ spoke p i j w → edge_start l x e ≢ edge_end l x e
-    loop_at e p i j w n is same =
-        let equal = rw is at same in
-        elim (spoke_joins p i j w n) [ inl s ↦ at_tip (cc) | inr s ↦ at_tip (cc) ]
+    loop_at e p i j w n is same = elim (spoke_joins p i j w n) [ inl s ↦ at_tip (cc) | inr s ↦ at_tip (cc) ]
       where
         at_tip : tip p i j w ≡ inside p i j → ⊥
-        at_tip f =
-            search (rules, tip_low, point_sort, no_tip_at_hub)
+        at_tip f = search (rules, tip_low, point_sort, no_tip_at_hub)

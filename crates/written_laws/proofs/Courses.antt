@@ -1,18 +1,17 @@
 -- Each dart of a new cell runs along one edge, in its direction or against it, and no other dart does. Over it lies
 -- the dart that runs the other way, or none where the arc stands once.
 use Rattle.std.proofs.Common.{rules, ◌≡◌, ℕ, ◌+◌, ◌-◌, ◌<◌, Bool, true, false, not, cond, refl, sym, ◌∙◌, ap, inl, inr}
-use Rattle.std.proofs.Common.{arith, ◌⊎◌, subst}
-use Rattle.std.proofs.lemmas.Bool.{false≢true}
-use Rattle.{std.specs.Prelude.◌==◌, def_written.specs.NewFaces.dart_start, def_written.specs.NewFaces.dart_end}
-use Rattle.def_layout.specs.Gluings.{Way, south, east, north, west, Gluing, Slot, IsSlot, AreReverse, use_of}
+use Rattle.std.proofs.{Common.arith, Common.◌⊎◌, Common.subst, lemmas.Bool.false≢true}
+use Rattle.def_layout.specs.Gluings.{Way, south, east, north, west, Gluing, Slot, IsSlot, use_of}
+use Rattle.def_layout.specs.{declared.tmesh.SideArc.SideArc, Surfaces.IsSurface, Surfaces.IsOtherSlot}
 use Rattle.def_layout.specs.Lengths.{Lengths, reach, size, wide, high, AreLengths}
 use Rattle.def_layout.specs.Cells.{CellDart, IsDart, dart, dart_along, slot_dart, prev, next}
-use Rattle.def_layout.specs.{declared.tmesh.SideArc.SideArc, Surfaces.IsSurface, Surfaces.IsOtherSlot}
 use Rattle.def_written.specs.Points.{Point, use_point, use_over, offset_at, IsPoint}
 use Rattle.def_written.specs.Edges.{Edge, on_arc, flat, steep, IsEdge, edge_start, edge_end}
 use Rattle.written_laws.proofs.Rims.{inner_edge, IsWithin, over, rim_within}
-use Rattle.written_laws.proofs.Borders.{at_low, at_from, at_to, sees, IsOnBorder, at_is, place_at, spot_dart, from_is}
 use Rattle.written_laws.proofs.{Sides.over_is, Sides.size_some, Fans.alike_place, Fans.not_twice, NewDarts.next_is}
+use Rattle.written_laws.proofs.Borders.{at_low, at_from, at_to, sees, IsOnBorder, at_is, place_at, spot_dart, from_is}
+use Rattle.{std.specs.Prelude.◌==◌, def_written.specs.NewFaces.dart_start, def_written.specs.NewFaces.dart_end}
 
 -- An edge, run along in its direction or against it.
 pub record Course : Type 0 where
@@ -67,11 +66,6 @@ module _ (l : Gluing) (x : Lengths) where
   abbrev pub use_course : (u : SideArc) (o : ℕ) → Course
   use_course u o = course (on_arc u.arc (cond u.forward o (x u.arc - 1 - o))) u.forward
 
-  -- It is that of an arc used the other way round, run against.
-  pub reverse_course : (u v : SideArc) (o : ℕ) → AreReverse u v → o < x u.arc
-      → use_course v (x u.arc - 1 - o) ≡ against (use_course u o)
-  reverse_course u v o rev less = search rules
-
   -- The course of the border dart at a place of a side.
   abbrev pub border_course : (p : ℕ) (s : Way) (t : ℕ) → Course
   border_course p s t = use_course (l.use_at p s (use_over l x p s t)) (offset_at l x p s t)
@@ -122,8 +116,7 @@ module _ (l : Gluing) (x : Lengths) where
       | inl i ↦ search (rules, within_course)
       | inr (w, o, b) ↦
           let e = by_way (use_of l w).arc (use_of l w).forward o b.low in
-          let c = border_is b in
-          (cc (at_from l x laid len w o b.is_slot b.low), cc (at_to l x laid len w o b.is_slot b.low))
+          search (rules, border_is, at_from, at_to)
     ]
       where
         by_way : (a : ℕ) (b : Bool) (o : ℕ) → o < x a → (use_point l x (record { arc = a; forward = b }) o ≡ start_at
@@ -147,18 +140,14 @@ module _ (l : Gluing) (x : Lengths) where
         l w).arc (cond (use_of l w).forward k (x (use_of l w).arc - 1 - k)) = ap (λ (c : Course). c.edge) same in
         let arcs : (use_of l v).arc ≡ (use_of l w).arc = cc in
         let slots : v ≡ w = laid.once v w is_v is_w (λ t. record { arc = arcs t; forward = ways t }) in
-        let place = alike_place (use_of l v).forward ways (ap (λ a. x a - 1) arcs) (omega arith) (omega arith) (cc) in
-        λ t. slot_dart l x (slots t) (place t)
+        search (rules, alike_place)
 
     -- Darts with one course are one.
     pub course_once : {d e : CellDart} → IsDart l x d → IsDart l x e → course_of d ≡ course_of e → d ≡ e
     course_once {d} {e} is_d is_e same = elim (sees l x laid.paved len is_d) [
       | inl i ↦
           let c = within_course d.patch d.i d.j d.way i in
-          elim (sees l x laid.paved len is_e) [
-            | inl j ↦ search rules
-            | inr (v, k, b) ↦ absurd (not_on_arc d.patch d.i d.j d.way (sym c ∙ same ∙ border_is b))
-          ]
+          search rules
       | inr (w, o, a) ↦
           let c = border_is a in
           elim (sees l x laid.paved len is_e) [
@@ -176,7 +165,7 @@ module _ {l : Gluing} {x : Lengths} (laid : IsSurface l) (len : AreLengths l x) 
   -- The dart over an arc that stands twice.
   pub across_border : (w v : Slot) (o : ℕ) → IsSlot l w → IsOtherSlot l w v → o < x (use_of l w).arc
       → IsAcross l x laid len (slot_dart l x w o) (slot_dart l x v (x (use_of l w).arc - 1 - o))
-  across_border w v o is other less = search (rules, at_course, at_is, reverse_course)
+  across_border w v o is other less = search (rules, at_course, at_is)
 
   -- The dart over an edge inside a patch.
   pub across_within : (d : CellDart) → IsWithin l x d → IsAcross l x laid len d (over d)
@@ -205,8 +194,7 @@ module _ {l : Gluing} {x : Lengths} (laid : IsSurface l) (len : AreLengths l x) 
         | inl i ↦ not_on_arc e.patch e.i e.j e.way (sym (within_course l x e.patch e.i e.j e.way i) ∙ here)
         | inr (v, k, b) ↦
             let there = sym (border_is l x laid len b) ∙ here in
-            let edges = ap (λ (c : Course). c.edge) there in
-            alone.alone v (b.is_slot, record { arc = cc; turned = ap (λ (c : Course). c.ahead) there })
+            search rules
       ]
 
   -- A dart across begins where the other one ends.
@@ -218,9 +206,8 @@ module _ {l : Gluing} {x : Lengths} (laid : IsSurface l) (len : AreLengths l x) 
   pub rim_turn : (w : Slot) (o : ℕ) → IsSlot l w → o < x (use_of l w).arc → 0 < place_at l x w o
       → IsAcross l x laid len (prev (slot_dart l x w o)) (spot_dart l x w o true)
   rim_turn w o is less some =
-      let r = rim_within laid.paved len w.patch w.side (place_at l x w o) is.patch_low some
-      (at_low l x laid.paved len o is less) in
-      subst (IsAcross l x laid len (prev (slot_dart l x w o))) r.1 (across_within (prev (slot_dart l x w o)) r.0)
+      let r = rim_within laid.paved len _ _ _ is.patch_low some (at_low l x laid.paved len o is less) in
+      subst (IsAcross l x laid len (prev (slot_dart l x w o))) r.1 (across_within _ r.0)
 
   pub spot_back : (w : Slot) (o : ℕ) → 0 < o → prev (spot_dart l x w o true) ≡ slot_dart l x w (o - 1)
   spot_back w o some = search rules

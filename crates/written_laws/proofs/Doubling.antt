@@ -1,23 +1,21 @@
 -- Lengths that are open double no edge: lengths of at least 3, and multiples of lengths that double none.
 use Rattle.std.proofs.Common.{rules, ◌≡◌, ◌≢◌, ◌⊎◌, ℕ, ◌+◌, ◌-◌, ◌<◌, ◌≤◌, Bool, true, false, refl, sym, ◌∙◌, ap, inl}
 use Rattle.std.proofs.Common.{inr, arith, zero, suc, ◌*◌, ◌/◌, ◌%◌, cond, subst}
-use Rattle.std.proofs.{lemmas.Bool.cases_eq, lemmas.Bool.cond-true, lemmas.Bool.eq-eqb, Math.Nat.mul-le-mul_left}
 use Rattle.def_layout.specs.Gluings.{Way, south, east, north, west, side_after, Gluing, Slot, use_of}
+use Rattle.def_layout.specs.{Surfaces.IsSurface, declared.tmesh.SideArc.SideArc}
 use Rattle.def_layout.specs.Lengths.{Lengths, reach, size, wide, high, AreLengths}
-use Rattle.def_layout.specs.{Surfaces.IsSurface, Cells.CellDart, Cells.IsDart, Cells.dart}
-use Rattle.def_layout.specs.{declared.tmesh.SideArc.SideArc}
+use Rattle.def_layout.specs.Cells.{CellDart, IsDart, dart}
 use Rattle.def_written.specs.Points.{inside, arc_point, side_point, point, Point, node, along, use_point, use_over}
-use Rattle.def_written.specs.Points.{offset_at}
+use Rattle.def_written.specs.{Points.offset_at, NewFaces.dart_start, NewFaces.dart_end}
 use Rattle.def_written.specs.Edges.{Edge, on_arc, flat, steep, IsEdge, edge_start, edge_end}
-use Rattle.def_written.specs.NewFaces.{dart_start, dart_end}
 use Rattle.written_laws.proofs.Sides.{slot, arc_last, use_inner, side_in, reach_low, first_slot, last_slot, last_reach}
-use Rattle.written_laws.proofs.Sides.{place_on}
+use Rattle.written_laws.proofs.{Sides.place_on, Fans.alike_or_turned, Manifold.IsSimple, Manifold.ends_differ}
 use Rattle.written_laws.proofs.Borders.{IsOpen, spoke, tip_column, tip_row, one_way, tip, Joins, point_sort, Inner, hub}
 use Rattle.written_laws.proofs.Borders.{tip_low, spoke_joins, hub_edge, loop_at}
 use Rattle.written_laws.proofs.Courses.{is_arc, course_of, border_course, course_once, across_ends}
-use Rattle.written_laws.proofs.{Rims.point_north, Rims.point_west, Rims.point_east, Rims.before_after, Rims.no_turn}
-use Rattle.written_laws.proofs.{Fans.alike_or_turned, Manifold.IsSimple, Manifold.ends_differ}
-use Rattle.{std.specs.Prelude.◌==◌, sum_laws.proofs.Sums.count_below_times}
+use Rattle.written_laws.proofs.Rims.{point_north, point_west, point_east, before_after, no_turn}
+use Rattle.{std.proofs.lemmas.Bool.cases_eq, std.proofs.Math.Nat.mul-le-mul_left}
+use Rattle.sum_laws.proofs.Sums.{count_below_times}
 
 -- A side is no shorter than the arcs.
 side_least : {l : Gluing} {x : Lengths} → IsSurface l → AreLengths l x → {k : ℕ} → ((a : ℕ) → a < l.arcs → k ≤ x a)
@@ -38,16 +36,12 @@ module _ {l : Gluing} {x : Lengths} (laid : IsSurface l) (len : AreLengths l x) 
       let v = slot p (side_after s) 0 in
       let is_w = last_slot l x laid.paved len p s p_low in
       let is_v = first_slot l x laid.paved len p (side_after s) p_low in
-      let w_two = open_l.two (use_of l w).arc (laid.paved.arc_low w is_w) in
-      let v_two = open_l.two (use_of l v).arc (laid.paved.arc_low v is_v) in
       let place : t ≡ reach l x p s (l.many p s - 1) + (x (use_of l w).arc - 1) =
-      omega (arith, last_reach l x laid.paved len p s p_low, w_two) in
-      let w_point = side_in l x (x (use_of l w).arc - 1) is_w (omega (arith, w_two))
-      ∙ use_inner l x (use_of l w) (x (use_of l w).arc - 1) (omega (arith, w_two)) (omega (arith, w_two)) in
-      let v_point = side_in l x 1 is_v (omega (arith, v_two))
-      ∙ use_inner l x (use_of l v) 1 (omega arith) (omega (arith, v_two)) in
-      let arcs : (use_of l w).arc ≡ (use_of l v).arc =
-      let f = sym w_point ∙ ap (side_point l x p s) (sym place) ∙ same ∙ v_point in cc in
+      omega (arith, last_reach l x laid.paved len p s p_low) in
+      let w_point = side_in l x (x (use_of l w).arc - 1) is_w (omega arith)
+      ∙ use_inner l x (use_of l w) (x (use_of l w).arc - 1) (omega arith) (omega arith) in
+      let v_point = side_in l x 1 is_v (omega arith) ∙ use_inner l x (use_of l v) 1 (omega arith) (omega arith) in
+      let arcs : (use_of l w).arc ≡ (use_of l v).arc = search rules in
       elim (alike_or_turned (use_of l w).forward (use_of l v).forward) [
         | inl ways ↦ no_turn s (ap (λ (u : Slot). u.side)
             (laid.once w v is_w is_v (λ r. record { arc = arcs r; forward = ways r })))
@@ -76,8 +70,7 @@ module _ {l : Gluing} {x : Lengths} (laid : IsSurface l) (len : AreLengths l x) 
       → tip l x p i j w ≢ tip l x p i j (side_after w)
   far_after p i j east (low, n) e f same =
       let one : wide l x p - i ≡ 1 = omega arith in
-      beside_corner p east j low (omega (arith, len.upright p low))
-      (cc (point_east l x laid len p j low e (omega arith), point_north l x laid len p i low f))
+      beside_corner p east j low (omega (arith, len.upright p low)) (search (rules, point_east, point_north))
   far_after p i j north (low, n) e f same =
       let first : i - 1 ≡ 0 = omega arith in
       let one : high l x p - j ≡ 1 = omega arith in
@@ -90,16 +83,14 @@ module _ {l : Gluing} {x : Lengths} (laid : IsSurface l) (len : AreLengths l x) 
   east_west p i j (low, n) e f same =
       let first : i - 1 ≡ 0 = omega arith in
       let two : i + 1 ≡ 2 = omega arith in
-      open_l.across p j low (omega arith) n.b_some n.b_low
-      (cc)
+      open_l.across p j low (omega arith) n.b_some n.b_low (cc)
 
   north_south : (p i j : ℕ) → Inner l x laid len p i j → Far p i j north → Far p i j south
       → tip l x p i j north ≢ tip l x p i j south
   north_south p i j (low, n) e f same =
       let first : j - 1 ≡ 0 = omega arith in
       let two : j + 1 ≡ 2 = omega arith in
-      open_l.upright p i low (omega arith) n.a_some n.a_low
-      (cc)
+      open_l.upright p i low (omega arith) n.a_some n.a_low (cc)
 
   far_tips : (p i j : ℕ) (w v : Way) → Inner l x laid len p i j → Far p i j w → Far p i j v
       → tip l x p i j w ≡ tip l x p i j v → w ≡ v
@@ -142,9 +133,7 @@ module _ {l : Gluing} {x : Lengths} (laid : IsSurface l) (len : AreLengths l x) 
   -- The points on both sides of an inner point of an arc differ.
   arcs_once : (a k b m : ℕ) → IsEdge l x (on_arc a k) → IsEdge l x (on_arc b m)
       → Joins l x (on_arc a k) (arc_point l x b m) (arc_point l x b (m + 1)) → on_arc a k ≡ on_arc b m
-  arcs_once a k b m is_a is_b joins =
-      let two = open_l.two b is_b.0 in
-      elim joins [ inl s ↦ search (rules, s, two) | inr s ↦ search (rules, s, two) ]
+  arcs_once a k b m is_a is_b joins = elim joins [ inl s ↦ search (rules, s) | inr s ↦ search (rules, s) ]
 
   -- An edge with the ends of one inside a patch is that edge.
   with_spoke : (g h : Edge) → IsEdge l x g → IsEdge l x h → is_arc h ≡ false
@@ -164,15 +153,11 @@ module _ {l : Gluing} {x : Lengths} (laid : IsSurface l) (len : AreLengths l x) 
   joins_once (on_arc a k) (on_arc b m) is_e is_f joins = arcs_once a k b m is_e is_f joins
   joins_once e (flat p i j) is_e is_f joins = with_spoke e (flat p i j) is_e is_f refl joins
   joins_once e (steep p i j) is_e is_f joins = with_spoke e (steep p i j) is_e is_f refl joins
-  joins_once e (on_arc b m) is_e is_f joins = sym (with_spoke (on_arc b m) e is_f is_e refl (elim joins [
-    | inl s ↦ inl (sym s.0, sym s.1)
-    | inr s ↦ inr (sym s.1, sym s.0)
-  ]))
+  joins_once e (on_arc b m) is_e is_f joins = sym (with_spoke (on_arc b m) e is_f is_e refl (search rules))
 
   no_loop : (e : Edge) → IsEdge l x e → edge_start l x e ≢ edge_end l x e
   no_loop (on_arc a k) is same = search rules
-  no_loop e is same =
-      let s = edge_spoke e is refl in loop_at l x laid len e s.0 s.1 s.2 s.3 s.4 s.5 same
+  no_loop e is same = let s = edge_spoke e is refl in loop_at l x laid len e _ _ _ _ s.4 s.5 same
 
   pub simple_open : IsSimple l x
   simple_open = search (rules, joins_once, inl, inr, no_loop)
@@ -186,9 +171,6 @@ abbrev double : (a : Point) → Point
 double (node n) = node n
 double (along a k) = along a (2 * k)
 double (inside p i j) = inside p (2 * i) (2 * j)
-
-double_same : (a b : Point) → double a ≡ double b → a ≡ b
-double_same a b h1 = search rules
 
 -- The point in the middle of an edge of an arc, where the lengths are doubled.
 abbrev middle : (e : Edge) → Point
@@ -249,12 +231,10 @@ module _ (l : Gluing) (y : Lengths) where
     -- Two darts of different ways in one cell do not run along one edge from side to side.
     no_shared_edge : {d e : CellDart} → IsDart l y d → IsDart l y e → d ≢ e → dart_start l y e ≢ dart_end l y d
         → (course_of l y e).edge ≢ (course_of l y d).edge
-    no_shared_edge {d} {e} is_d is_e apart ends edges =
-        elim (alike_or_turned _ _) [
-          | inl ways ↦ apart (course_once l y laid len is_d is_e (λ t. record { edge = sym edges t; ahead = ways t }))
-          | inr ways ↦ ends (across_ends laid len {e = e} is_d
-              (record { is_dart = is_e; course = λ t. record { edge = edges t; ahead = ways t } })).0
-        ]
+    no_shared_edge {d} {e} is_d is_e apart ends edges = elim (alike_or_turned _ _) [
+      | inl ways ↦ apart (course_once l y laid len is_d is_e (λ t. record { edge = sym edges t; ahead = ways t }))
+      | inr ways ↦ ends (across_ends laid len {e = e} is_d (search rules)).0
+    ]
 
     -- Where opposite sides meet at a point, they meet at a point or run along one edge at half of the lengths.
     opposite : (p : ℕ) (s r : Way) (t n m : ℕ) → p < l.patches → size l y p s ≡ n → size l y p r ≡ n → m ≡ 2 * n
@@ -265,7 +245,7 @@ module _ (l : Gluing) (y : Lengths) where
       | inl e ↦
           let half : 2 * (t / 2) ≡ t = omega arith in
           let rest : m - t ≡ 2 * (n - t / 2) = omega arith in
-          inl (search (rules, double_same, side_double, half, rest))
+          inl (search (rules, side_double, half, rest))
       | inr o ↦
           let half : 2 * (t / 2) + 1 ≡ t = omega arith in
           let rest : m - t ≡ 2 * (n - 1 - t / 2) + 1 = omega arith in
@@ -277,22 +257,16 @@ module _ (l : Gluing) (y : Lengths) where
     across_open p j low two some less same =
         let one : wide l y p ≡ 1 = omega (arith, size_scale 2 p south) in
         let rows = size_scale 2 p west in
-        let is : j / 2 < high l y p → (w : Way) → IsDart l y (dart p 0 (j / 2) w) =
-        λ j_low w. record { patch_low = low; i_low = omega arith; j_low = j_low } in
+        let is : j / 2 < high l y p → (w : Way) → IsDart l y (dart p 0 (j / 2) w) = search rules in
         let sides = sym (point_east l _ laid z_len p j low (sym two) (omega arith)) ∙ sym same
         ∙ point_west l _ laid z_len p j low (omega arith) in
-        elim (opposite p east west j _ _ low (len.upright p low) refl rows some less
-        sides) [
+        elim (opposite p east west j _ _ low (len.upright p low) refl rows some less sides) [
           | inl (e, points) ↦ simple.no_loop (flat p 0 (j / 2)) (low, omega arith, omega arith, omega arith)
-              (cc (
-                point_west l y laid len p (j / 2) low (omega (arith, rows)),
-                point_east l y laid len p (j / 2) low (sym one) (omega (arith, rows)),
-              ))
+              (search rules)
           | inr (o, edges) ↦
               let at = is (omega arith) in
-              no_shared_edge (at west) (at east) (λ s. let w : west ≡ east = ap (λ (d : CellDart). d.way) s in cc)
-              (λ s. ends_differ laid len simple (at south) (sym s))
-              (cc (cond-true (1 == wide l y p) (border_course l y p east (j / 2)) _ (eq-eqb 1 (wide l y p) (sym one))))
+              no_shared_edge (at west) (at east) (search rules) (λ s. ends_differ laid len simple (at south) (sym s))
+              (search rules)
         ]
 
     upright_open : (p i : ℕ) → p < l.patches → high l (scale 2 y) p ≡ 2 → 0 < i → i < wide l (scale 2 y) p
@@ -300,18 +274,15 @@ module _ (l : Gluing) (y : Lengths) where
     upright_open p i low two some less same =
         let one : high l y p ≡ 1 = omega (arith, size_scale 2 p west) in
         let columns = size_scale 2 p south in
-        let is : i / 2 < wide l y p → (w : Way) → IsDart l y (dart p (i / 2) 0 w) =
-        λ i_low w. record { patch_low = low; i_low = i_low; j_low = omega arith } in
+        let is : i / 2 < wide l y p → (w : Way) → IsDart l y (dart p (i / 2) 0 w) = search rules in
         elim (opposite p south north i _ _ low refl (len.across p low) columns some less
         (same ∙ point_north l _ laid z_len p i low (sym two))) [
           | inl (e, points) ↦ simple.no_loop (steep p (i / 2) 0) (low, omega arith, omega arith, omega arith)
               (cc (point_north l y laid len p (i / 2) low (sym one)))
           | inr (o, edges) ↦
               let at = is (omega arith) in
-              no_shared_edge (at south) (at north) (λ s. let w : south ≡ north = ap (λ (d : CellDart). d.way) s in cc)
-              (λ s. ends_differ laid len simple (at east) (sym s))
-              (cc (cond-true (1 == high l y p) (border_course l y p north (wide l y p - 1 - i / 2)) _
-              (eq-eqb 1 (high l y p) (sym one))))
+              no_shared_edge (at south) (at north) (search rules) (λ s. ends_differ laid len simple (at east) (sym s))
+              (search rules)
         ]
 
     simple_twice : IsSimple l (scale 2 y)

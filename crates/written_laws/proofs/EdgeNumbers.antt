@@ -31,15 +31,11 @@ module _ (l : Gluing) (x : Lengths) where
   pub number_same : (a b : Point) → IsPoint l x a → IsPoint l x b → vertex_number l x a ≡ vertex_number l x b → a ≡ b
   number_same (node m) (node n) is_a is_b e = ap node e
   number_same (along a k) (along b j) is_a is_b e =
-      let s = place_same (λ c. x c - 1) l.arcs a (k - 1) b (j - 1) is_a.0 is_b.0 (omega arith)
-      (omega arith) (omega arith) in
-      let same : k ≡ j = omega arith in
-      λ t. along (s.0 t) (same t)
+      let s = place_same (λ c. x c - 1) _ a (k - 1) b (j - 1) is_a.0 is_b.0 (omega arith) (omega arith) (omega arith) in
+      search rules
   number_same (inside p i j) (inside q a b) is_a is_b e =
-      let s = cell_once inner_wide inner_high l.patches (inner_cell p i j is_a) (inner_cell q a b is_b) (omega arith) in
-      let i_same : i ≡ a = omega (arith, s.1, is_a.1, is_b.1) in
-      let j_same : j ≡ b = omega (arith, s.2, is_a.3, is_b.3) in
-      λ t. inside (s.0 t) (i_same t) (j_same t)
+      let s = cell_once _ _ _ (inner_cell p i j is_a) (inner_cell q a b is_b) (omega arith) in
+      search rules
   number_same _ _ is_a is_b e = search (rules, along_low)
 
 -- The edges of the new mesh are numbered as its points are: those of the arcs, then those inside patches.
@@ -83,18 +79,14 @@ module _ (l : Gluing) (x : Lengths) where
 
   pub edge_same : (e f : Edge) → IsEdge l x e → IsEdge l x f → edge_number e ≡ edge_number f → e ≡ f
   edge_same (on_arc a k) (on_arc b m) is_e is_f same =
-      let s = place_same x l.arcs a k b m is_e.0 is_f.0 is_e.1 is_f.1 same in
+      let s = place_same x _ a k b m is_e.0 is_f.0 is_e.1 is_f.1 same in
       λ t. on_arc (s.0 t) (s.1 t)
   edge_same (flat p i j) (flat q c d) is_e is_f same =
-      let s = cell_once (wide l x) (inner_high l x) l.patches (flat_cell p i j is_e) (flat_cell q c d is_f)
-      (omega arith) in
-      let rows : j ≡ d = omega (arith, s.2, is_e.2, is_f.2) in
-      λ t. flat (s.0 t) (s.1 t) (rows t)
+      let s = cell_once _ _ _ (flat_cell p i j is_e) (flat_cell q c d is_f) (omega arith) in
+      search rules
   edge_same (steep p i j) (steep q c d) is_e is_f same =
-      let s = cell_once (inner_wide l x) (high l x) l.patches (steep_cell p i j is_e) (steep_cell q c d is_f)
-      (omega arith) in
-      let columns : i ≡ c = omega (arith, s.1, is_e.1, is_f.1) in
-      λ t. steep (s.0 t) (columns t) (s.2 t)
+      let s = cell_once _ _ _ (steep_cell p i j is_e) (steep_cell q c d is_f) (omega arith) in
+      search rules
   edge_same (flat p i j) (steep q c d) is_e is_f same = absurd (omega (arith, flat_low p i j is_e))
   edge_same (steep p i j) (flat q c d) is_e is_f same = absurd (omega (arith, flat_low q c d is_f))
   edge_same e (on_arc b m) is_e is_f same = absurd (omega (arith, arc_place b m is_f))
@@ -103,14 +95,13 @@ module _ (l : Gluing) (x : Lengths) where
   -- Each number below the total is that of an edge.
   pub edge_onto : (n : ℕ) → n < edge_total → (e : Edge) × IsEdge l x e × (edge_number e ≡ n)
   edge_onto n low = elim (cases_lt n (count_below x l.arcs)) [
-    | inl less ↦ by_arc (run_here x l.arcs n less)
+    | inl less ↦ by_arc (run_here x _ n less)
     | inr more ↦ elim (cases_lt n (count_below x l.arcs + count_below flats l.patches)) [
       | inl less ↦
-          let (c, place) = cell_here (wide l x) (inner_high l x) l.patches (n - count_below x l.arcs) (omega arith) in
+          let (c, place) = cell_here _ _ _ (n - count_below x l.arcs) (omega arith) in
           by_flat _ _ _ c (omega (arith, place))
       | inr most ↦
-          let (c, place) = cell_here (inner_wide l x) (high l x) l.patches
-          (n - (count_below x l.arcs + count_below flats l.patches)) (omega arith) in
+          let (c, place) = cell_here _ _ _ (n - (count_below x l.arcs + count_below flats l.patches)) (omega arith) in
           by_steep _ _ _ c (omega (arith, place))
     ]
   ]
@@ -120,24 +111,21 @@ module _ (l : Gluing) (x : Lengths) where
 
       by_flat : (p i j : ℕ) → IsCell (wide l x) (inner_high l x) l.patches p i j → count_below x l.arcs
           + number_of (wide l x) (inner_high l x) l.patches p i j ≡ n → (e : Edge) × IsEdge l x e × (edge_number e ≡ n)
-      by_flat p i j c place =
-          (flat p i (j + 1), search rules, search rules)
+      by_flat p i j c place = (flat p i (j + 1), search rules, search rules)
 
       by_steep : (p i j : ℕ) → IsCell (inner_wide l x) (high l x) l.patches p i j
           → count_below x l.arcs + count_below flats l.patches
           + number_of (inner_wide l x) (high l x) l.patches p i j ≡ n → (e : Edge) × IsEdge l x e × (edge_number e ≡ n)
-      by_steep p i j c place =
-          (steep p (i + 1) j, search rules, search rules)
+      by_steep p i j c place = (steep p (i + 1) j, search rules, search rules)
 
   -- Each number below that of the vertices is that of a point.
   pub point_onto : (n : ℕ) → n < vertices l x → (a : Point) × IsPoint l x a × (vertex_number l x a ≡ n)
   point_onto n low = elim (cases_lt n l.nodes) [
     | inl less ↦ (node n, less, refl)
     | inr more ↦ elim (cases_lt n (l.nodes + before_arc x l.arcs)) [
-      | inl less ↦ by_arc (omega (arith, more)) (run_here (λ b. x b - 1) l.arcs (n - l.nodes) (omega arith))
+      | inl less ↦ by_arc (omega (arith, more)) (run_here _ _ (n - l.nodes) (omega arith))
       | inr most ↦
-          let (c, place) = cell_here (inner_wide l x) (inner_high l x) l.patches
-          (n - (l.nodes + before_arc x l.arcs)) (omega arith) in
+          let (c, place) = cell_here _ _ _ (n - (l.nodes + before_arc x l.arcs)) (omega arith) in
           by_patch _ _ _ c (omega (arith, place))
     ]
   ]
@@ -149,5 +137,4 @@ module _ (l : Gluing) (x : Lengths) where
       by_patch : (p i j : ℕ) → IsCell (inner_wide l x) (inner_high l x) l.patches p i j → l.nodes + before_arc x l.arcs
           + number_of (inner_wide l x) (inner_high l x) l.patches p i j ≡ n
           → (a : Point) × IsPoint l x a × (vertex_number l x a ≡ n)
-      by_patch p i j c place =
-          (inside p (i + 1) (j + 1), search rules, search rules)
+      by_patch p i j c place = (inside p (i + 1) (j + 1), search rules, search rules)

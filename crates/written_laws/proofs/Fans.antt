@@ -1,24 +1,19 @@
 -- The border darts of a patch tell their places, and so do all darts that leave a place of an arc.
 use Rattle.std.proofs.Common.{rules, ◌≡◌, ℕ, zero, suc, ◌+◌, ◌-◌, ◌<◌, Bool, true, false, refl, sym, ◌∙◌, ap, subst}
 use Rattle.std.proofs.Common.{inl, inr, arith, ◌⊎◌, ◌≤◌, not, cond}
-use Rattle.def_layout.specs.Gluings.{Way, south, east, north, west, side_after, side_before, Gluing, Slot, IsSlot}
+use Rattle.def_layout.specs.Gluings.{Way, south, east, north, west, side_before, Gluing, Slot, IsSlot}
 use Rattle.def_layout.specs.Gluings.{use_of, use_before, slot_before, start_node}
 use Rattle.def_layout.specs.{Lengths.Lengths, Lengths.reach, Lengths.size, Lengths.AreLengths, Surfaces.HasWholeSides}
 use Rattle.def_layout.specs.{Surfaces.IsSurface, Surfaces.IsOtherSlot, Fans.IsTurn, Fans.SlotTurns, Fans.HasFans}
 use Rattle.def_layout.specs.Cells.{CellDart, next, prev, dart_along, slot_dart, IsDart, dart}
-use Rattle.written_laws.proofs.{Rims.prev_next, Rims.corner_next, Rims.column_of, Rims.row_of, Rims.over, Rims.is_dart}
-use Rattle.written_laws.proofs.{Rims.IsWithin, Rims.IsInner, Rims.rim_within, Spacings.place_same, NewDarts.next_is}
-use Rattle.written_laws.proofs.Sides.{slot, long_at, use_some, size_some, last_reach, first_is, last_is, use_sort}
+use Rattle.written_laws.proofs.{Rims.corner_next, Rims.column_of, Rims.row_of, Rims.over}
+use Rattle.written_laws.proofs.{Rims.IsWithin, Rims.IsInner, Rims.rim_within, Spacings.place_same}
+use Rattle.written_laws.proofs.Sides.{slot, long_at, use_some, last_reach, first_is, last_is, use_sort}
 use Rattle.written_laws.proofs.Borders.{place_at, spot_dart, at_low, before_is, IsSpot, IsOnBorder, at_is, spot_is}
 use Rattle.written_laws.proofs.Borders.{spot_from, sort_spot, inner_from, use_not_inside}
 use Rattle.def_written.specs.{Points.use_point, NewFaces.column, NewFaces.row, NewFaces.dart_start}
 
 module _ {l : Gluing} {x : Lengths} (paved : HasWholeSides l) (len : AreLengths l x) where
-  -- Border darts that are one lie at one place.
-  along_same : (p q : ℕ) (s r : Way) (t u : ℕ) → p < l.patches → t < size l x p s → u < size l x q r
-      → dart_along l x p s t ≡ dart_along l x q r u → (q ≡ p) × (r ≡ s) × (t ≡ u)
-  along_same p q s r t u low t_low u_low e = search rules
-
   -- The dart next to a border dart lies on the border at the end of the side alone.
   no_corner : (p q : ℕ) (s r : Way) (t u : ℕ) → p < l.patches → t + 1 < size l x p s → u < size l x q r
       → next (dart_along l x p s t) ≡ dart_along l x q r u → ⊥
@@ -50,13 +45,8 @@ module _ {l : Gluing} {x : Lengths} (paved : HasWholeSides l) (len : AreLengths 
 
       by_sides : (b c : Bool) → spot_dart l x w o b ≡ spot_dart l x v k c → (b ≡ true → 0 < place_at l x w o)
           → (c ≡ true → 0 < place_at l x v k) → (w ≡ v) × (o ≡ k) × (b ≡ c)
-      by_sides false false e f g = search (rules, along_same, same, t_low, u_low)
-      by_sides true true e f g =
-          let back : dart_along l x w.patch w.side (place_at l x w o - 1)
-          ≡ dart_along l x v.patch v.side (place_at l x v k - 1) = search (rules, prev_next, ap prev e) in
-          let a = along_same w.patch v.patch w.side v.side (place_at l x w o - 1) (place_at l x v k - 1)
-          s.is_slot.patch_low (omega (arith, t_low)) (omega (arith, u_low)) back in
-          let h = same a.0 a.1 (omega (arith, a.2, f refl, g refl)) in (h.0, h.1, refl)
+      by_sides false false e f g = search (rules, same, t_low, u_low)
+      by_sides true true e f g = search (rules, t_low, u_low, same)
       by_sides _ _ e f g = search (rules, no_corner, t_low, u_low)
 
   pub rim_slot : {w v : Slot} {o k : ℕ} → IsSlot l w → IsSlot l v → o < x (use_of l w).arc → k < x (use_of l v).arc
@@ -82,8 +72,7 @@ module _ {l : Gluing} {x : Lengths} (paved : HasWholeSides l) (len : AreLengths 
           (omega (arith, last_reach l x paved len w.patch q first.patch_low, some)) in
           let low = use_some l x paved len (slot w.patch w.side 0) first in search rules
       by_place (suc m) later =
-          let some = use_some l x paved len (slot w.patch w.side m)
-          (record { patch_low = later.patch_low; low = omega (arith, later.low) }) in
+          let some = use_some l x paved len (slot w.patch w.side m) (search rules) in
           let back : reach l x w.patch w.side m + (x (l.use_at w.patch w.side m).arc - 1)
           ≡ reach l x w.patch w.side (suc m) + 0 - 1 = omega (arith, some) in (
             true,
@@ -95,16 +84,8 @@ module _ {l : Gluing} {x : Lengths} (paved : HasWholeSides l) (len : AreLengths 
   pub corner_slots : (d : CellDart) {w v : Slot} {o k : ℕ} → IsOnBorder l x d w o → IsOnBorder l x (next d) v k
       → (v.at ≡ 0) × (slot_before l v.patch v.side v.at ≡ w)
   corner_slots d {w} {v} {o} {k} at_w at_v =
-      let t_low = at_low l x paved len o at_w.is_slot at_w.low in
       let u_low = at_low l x paved len k at_v.is_slot at_v.low in
-      let row = ap next (sym at_w.dart) ∙ at_v.dart in
-      let full : place_at l x w o + 1 ≡ size l x w.patch w.side =
-      search (rules, no_corner, t_low, u_low, row) in
-      let a = along_same w.patch v.patch (side_after w.side) v.side 0 (place_at l x v k) at_w.is_slot.patch_low
-      (size_some l x paved len w.patch (side_after w.side) at_w.is_slot.patch_low) u_low
-      (sym (corner_next paved len w.patch w.side (place_at l x w o) at_w.is_slot.patch_low full) ∙ row) in
-      let v_first : v.at ≡ 0 = first_is l x paved len v at_v.is_slot (omega (arith, a.2)) in
-      let w_last : w.at ≡ l.many w.patch w.side - 1 = last_is l x paved len w at_w.is_slot (omega arith) in search rules
+      search (rules, first_is, last_is)
 
 -- Points are the classes of corners under turns: what holds for turns holds for all darts that leave one point.
 
@@ -147,10 +128,8 @@ module _ {l : Gluing} {x : Lengths} (paved : HasWholeSides l) (len : AreLengths 
           → R (spot_dart l x w o b) (slot_dart l x w o)
       by_side false some = turning.self _ _ refl
       by_side true some =
-          let r = rim_within paved len w.patch w.side (reach l x w.patch w.side w.at + o) s.is_slot.patch_low
-          (some refl) (at_low l x paved len o s.is_slot s.low) in
-          let is = at_is l x paved len w o s.is_slot s.low in
-          turning.back (slot_dart l x w o) _ is (rw r.1 at (turning.inner (slot_dart l x w o) is r.0))
+          let r = rim_within paved len _ _ _ s.is_slot.patch_low (some refl) (at_low l x paved len o s.is_slot s.low) in
+          search rules
 
   -- so for the dart after the last one of an arc and the first one of the next arc.
   pub before_related : (w : Slot) → IsSlot l w
@@ -168,9 +147,7 @@ module _ {l : Gluing} {x : Lengths} (paved : HasWholeSides l) (len : AreLengths 
 
       north_on : (c r : ℕ) → IsDart l x (dart p c r north) → IsInner paved len p (c + 1) (r + 1)
           → R (dart p c r north) (dart p (c + 1) (r + 1) south)
-      north_on c r d n = turning.on _ (dart p (c + 1) r west) _
-          (turning.inner (dart p c r north) d (d.patch_low, n.a_some, n.a_low, d.j_low))
-          (west_on (c + 1) r (is_dart p (c + 1) r west d.patch_low n.a_low d.j_low) n)
+      north_on c r d n = turning.on _ (dart p (c + 1) r west) _ (search rules) (search rules)
 
       by_way : (w : Way) → IsDart l x (dart p c r w) → IsInner paved len p (column c w) (row r w)
           → R (dart p c r w) (dart p (column c w) (row r w) south)
@@ -180,8 +157,7 @@ module _ {l : Gluing} {x : Lengths} (paved : HasWholeSides l) (len : AreLengths 
       by_way east d n =
           let e : r - 1 + 1 ≡ r = omega (arith, n.b_some) in
           let below : IsInner paved len p (c + 1) (r - 1 + 1) = rw e n in
-          let ahead = north_on c (r - 1) (is_dart p c (r - 1) north d.patch_low d.i_low (omega (arith, d.j_low))) below
-          in
+          let ahead = north_on c (r - 1) (search rules) below in
           turning.on _ (dart p c (r - 1) north) _ (turning.inner (dart p c r east) d
           (d.patch_low, d.i_low, n.b_some, n.b_low)) (rw e at ahead)
 
@@ -196,10 +172,7 @@ module _ {l : Gluing} {x : Lengths} (laid : IsSurface l) (len : AreLengths l x) 
       let some = use_some l x laid.paved len b is_b in
       let zero_is : x (use_of l b).arc - 1 - k ≡ 0 = omega arith in
       let over = turning.over b w k is_b (turn.is_slot, turn.reverse) (omega arith) in
-      turning.on _ _ _
-      (turning.back _ _
-      (next_is l x _ (at_is l x laid.paved len b k is_b (omega arith)))
-      (before_related laid.paved len turning v is))
+      turning.on _ _ _ (turning.back _ _ (search (rules, at_is)) (before_related laid.paved len turning v is))
       (rw zero_is at over)
 
   pub turns_related : (v w : Slot) (n : ℕ) → IsSlot l v → IsSlot l w → SlotTurns l v w n
@@ -208,8 +181,7 @@ module _ {l : Gluing} {x : Lengths} (laid : IsSurface l) (len : AreLengths l x) 
   turns_related v w (suc n) is_v is_w turns = turning.on _ _ (slot_dart l x w 0)
       (turns_related v turns.0 n is_v turns.1 turns.2) (elim turns.3 [
         | inl t ↦ turn_related turns.1 t
-        | inr t ↦ turning.back _ _ (at_is l x laid.paved len w 0 is_w (use_some l x laid.paved len w is_w))
-            (turn_related is_w t)
+        | inr t ↦ turning.back _ _ (search (rules, at_is, use_some)) (turn_related is_w t)
       ])
 
   -- It holds for the first darts of arcs that begin at one node.
@@ -218,44 +190,33 @@ module _ {l : Gluing} {x : Lengths} (laid : IsSurface l) (len : AreLengths l x) 
       → R (slot_dart l x v 0) (slot_dart l x w 0)
 
   pub at_nodes : HasFans l → AtNodes
-  at_nodes fans v w is_v is_w same =
-      let t = fans v w is_v is_w same in turns_related v w t.0 is_v is_w t.1
+  at_nodes fans v w is_v is_w same = let t = fans v w is_v is_w same in turns_related v w _ is_v is_w t.1
 
   -- It holds for two border darts that leave one inner point of an arc.
   along_related : (w v : Slot) (o k : ℕ) → IsSlot l w → IsSlot l v → 0 < o → o < x (use_of l w).arc → k < x (use_of l
       v).arc → (use_of l w).arc ≡ (use_of l v).arc → cond (use_of l w).forward o (x (use_of l w).arc - o) ≡ cond (use_of
       l v).forward k (x (use_of l v).arc - k) → R (slot_dart l x w o) (slot_dart l x v k)
-  along_related w v o k is_w is_v o_some o_low k_low arcs place =
-      elim (alike_or_turned (use_of l w).forward (use_of l v).forward) [
-        | inl ways ↦
-            let one : w ≡ v = laid.once w v is_w is_v (λ t. record { arc = arcs t; forward = ways t }) in
-            let at = alike_place (use_of l w).forward ways (ap x arcs) (omega arith) (omega arith) place in
-            turning.self (slot_dart l x w o) (slot_dart l x v k) (λ t. slot_dart l x (one t) (at t))
-        | inr ways ↦
-            let at = turned_place (use_of l w).forward ways (ap x arcs) o_low k_low place in
-            let place_is : x (use_of l w).arc - 1 - (o - 1) ≡ k = omega arith in
-            let over = turning.over w v (o - 1) is_w (is_v, record { arc = sym arcs; turned = ways }) (omega arith) in
-            let behind : reach l x w.patch w.side w.at + o - 1 ≡ reach l x w.patch w.side w.at + (o - 1) =
-            omega arith in
-            let s = spot_is l x laid len true is_w o_low (λ e. omega arith) in
-            turning.on _ _ _ (turning.back (spot_dart l x w o true) _ s.0 (spot_related laid.paved len turning s.1))
-            (rw (behind, ← place_is) over)
-      ]
+  along_related w v o k is_w is_v o_some o_low k_low arcs place = elim (alike_or_turned _ _) [
+    | inl ways ↦
+        let one : w ≡ v = laid.once w v is_w is_v (λ t. record { arc = arcs t; forward = ways t }) in
+        search (rules, alike_place)
+    | inr ways ↦
+        let at = turned_place _ ways (ap x arcs) o_low k_low place in
+        let place_is : x (use_of l w).arc - 1 - (o - 1) ≡ k = omega arith in
+        let over = turning.over w v (o - 1) is_w (is_v, record { arc = sym arcs; turned = ways }) (omega arith) in
+        let behind : reach l x w.patch w.side w.at + o - 1 ≡ reach l x w.patch w.side w.at + (o - 1) = omega arith in
+        let s = spot_is l x laid len true is_w o_low (λ e. omega arith) in
+        turning.on _ _ _ (turning.back (spot_dart l x w o true) _ s.0 (spot_related laid.paved len turning s.1))
+        (rw (behind, ← place_is) over)
+  ]
 
   module _ (nodes : AtNodes) where
     use_related : (w v : Slot) (o k : ℕ) → IsSlot l w → IsSlot l v → o < x (use_of l w).arc → k < x (use_of l v).arc
         → use_point l x (use_of l w) o ≡ use_point l x (use_of l v) k → R (slot_dart l x w o) (slot_dart l x v k)
-    use_related w v o k is_w is_v o_low k_low same =
-        elim (use_sort l x (use_of l w) o o_low) [
-          | inl (o_zero, a) ↦ elim (use_sort l x (use_of l v) k k_low) [
-            | inl (k_zero, b) ↦ search rules
-            | inr (k_some, b) ↦ absurd cc
-          ]
-          | inr (o_some, a) ↦ elim (use_sort l x (use_of l v) k k_low) [
-            | inl (k_zero, b) ↦ absurd cc
-            | inr (k_some, b) ↦ along_related w v o k is_w is_v o_some o_low k_low (cc) (cc)
-          ]
-        ]
+    use_related w v o k is_w is_v o_low k_low same = elim (use_sort l x (use_of l w) o o_low) [
+      | inl (o_zero, a) ↦ search (rules, use_sort)
+      | inr (o_some, a) ↦ search (rules, use_sort, along_related)
+    ]
 
     -- It holds for all darts that leave one point.
     pub point_related : (d e : CellDart) → IsDart l x d → IsDart l x e → dart_start l x d ≡ dart_start l x e → R d e
@@ -281,8 +242,7 @@ module _ {l : Gluing} {x : Lengths} (laid : IsSurface l) (len : AreLengths l x) 
             | inr (v, k, c, r) ↦
                 let there = spot_from l x laid len r in
                 turning.on d (slot_dart l x w o) e (spot_related laid.paved len turning s)
-                (turning.on (slot_dart l x w o) (slot_dart l x v k) e
-                (use_related w v o k s.is_slot r.is_slot s.low r.low (cc))
-                (turning.back e (slot_dart l x v k) is_e (spot_related laid.paved len turning r)))
+                (turning.on (slot_dart l x w o) (slot_dart l x v k) e (use_related w v o k s.is_slot r.is_slot s.low
+                r.low (cc)) (turning.back e (slot_dart l x v k) is_e (spot_related laid.paved len turning r)))
           ]
     ]

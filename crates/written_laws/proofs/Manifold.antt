@@ -1,5 +1,5 @@
 -- Meshes in which no edge is doubled, and what two points then tell of an edge between them.
-use Rattle.std.proofs.Common.{rules, ◌≡◌, ◌≢◌, Bool, true, false, sym, ◌∙◌, ap, ℕ, zero, suc, refl, subst, inl, inr}
+use Rattle.std.proofs.Common.{rules, ◌≡◌, ◌≢◌, Bool, true, false, sym, ◌∙◌, ap, ℕ, zero, suc, refl, inl, inr}
 use Rattle.std.proofs.Common.{◌<◌, Some, None, arith}
 use Rattle.def_layout.specs.Gluings.{Gluing, Way, south, east, north, west, side_after, Slot}
 use Rattle.def_layout.specs.{Lengths.Lengths, Lengths.AreLengths, Cells.CellDart, Cells.IsDart, Cells.prev}
@@ -36,8 +36,7 @@ pub simple_by : {l : Gluing} {x : Lengths} → TellCourses l x → IsSimple l x
 simple_by one = record {
   same = λ e f is_e is_f s t. ap (λ (c : Course). c.edge) (one (course e true) (course f true) is_e is_f s t);
   crossed = λ e f is_e is_f s t. ap (λ (c : Course). c.edge) (one (course e true) (course f false) is_e is_f s t);
-  no_loop = λ e is s.
-      not_self true (ap (λ (c : Course). c.ahead) (one (course e true) (course e false) is is s (sym s)));
+  no_loop = λ e is s. not_self _ (ap (λ (c : Course). c.ahead) (one (course e true) (course e false) is is s (sym s)));
 }
 
 module _ {l : Gluing} {x : Lengths} (simple : IsSimple l x) where
@@ -98,11 +97,7 @@ module _ (l : Gluing) (x : Lengths) (laid : IsSurface l) (len : AreLengths l x) 
       let b = at_number l x laid len e e_low in
       let joined = point_related laid len joins (at_nodes laid len joins fans) a.0 b.0 a.1 b.1
       (number_same l x _ _ (from_is l x laid len a.0 a.1) (from_is l x laid len b.0 b.1)
-      (cc (number_from l x a.0 a.1, number_from l x b.0 b.1))) in (
-        joined.0,
-        subst (λ (k : ℕ). Chain (new_faces l x) k e joined.0) a.2
-            (subst (λ (k : ℕ). Chain (new_faces l x) (dart_number l x a.0) k joined.0) b.2 joined.1),
-      )
+      (cc (number_from l x a.0 a.1, number_from l x b.0 b.1))) in search rules
 
 -- Darts that follow each other round a cell inside a patch run along different edges.
 flat_or_steep : (p i j : ℕ) (w : Way) → inner_edge p i j (side_after w) ≢ inner_edge p i j w
@@ -122,25 +117,15 @@ module _ {l : Gluing} {x : Lengths} (laid : IsSurface l) (len : AreLengths l x) 
         (course_is l x laid len is_next) (sym (course_from l x laid len (next d) is_next) ∙ course_to l x laid len d is)
         (sym (course_to l x laid len (next d) is_next) ∙ sym same ∙ course_from l x laid len d is) in
         elim (sees l x laid.paved len is) [
-          | inl i ↦
-              let here = within_course l x d.patch d.i d.j d.way i in
-              elim (sees l x laid.paved len is_next) [
-                | inl j ↦ flat_or_steep d.patch d.i d.j d.way (ap (λ (g : Course). g.edge)
-                    (sym (within_course l x d.patch d.i d.j (side_after d.way) j) ∙ turned ∙ ap against here))
-                | inr (v, k, b) ↦ not_on_arc d.patch d.i d.j d.way (sym here
-                    ∙ sym (ap against turned ∙ against_twice (course_of l x d)) ∙ ap against (border_is l x laid len b))
-              ]
+          | inl i ↦ search (rules, within_course, sees, flat_or_steep, not_on_arc, against_twice, border_is)
           | inr (w, o, a) ↦
               let here = border_is l x laid len a in
               elim (sees l x laid.paved len is_next) [
-                | inl j ↦ not_on_arc d.patch d.i d.j (side_after d.way)
-                    (sym (within_course l x d.patch d.i d.j (side_after d.way) j) ∙ turned ∙ ap against here)
+                | inl j ↦ search (rules, not_on_arc, within_course)
                 | inr (v, k, b) ↦
                     let c = corner_slots laid.paved len d a b in
                     let there = sym (border_is l x laid len b) ∙ turned ∙ ap against here in
-                    let arcs = ap (λ (g : Course). g.edge) there in
-                    laid.no_fold v b.is_slot c.0
-                    (rw c.1 (record { arc = cc; turned = ap (λ (g : Course). g.ahead) there }))
+                    laid.no_fold v b.is_slot c.0 (search rules)
               ]
         ]
 
@@ -153,8 +138,7 @@ module _ {l : Gluing} {x : Lengths} (laid : IsSurface l) (len : AreLengths l x) 
 
         side : (w v : Way) → dart_start l x (dart_of l x f w) ≢ dart_start l x (dart_of l x f v)
             → cell_vertex l x f w ≢ cell_vertex l x f v
-        side w v apart same = apart
-            (number_same l x _ _ (from_is l x laid len _ (is w)) (from_is l x laid len _ (is v)) same)
+        side w v apart same = apart (search (rules, number_same, from_is, is))
 
         at : (i j : ℕ) → i < j → j < 4 → cell_vertex l x f (way_of i) ≢ cell_vertex l x f (way_of j)
         at zero (suc zero) less four = side south east (ends_differ (is south))
@@ -170,8 +154,7 @@ module _ {l : Gluing} {x : Lengths} (laid : IsSurface l) (len : AreLengths l x) 
         let f_low : f < face_count l x = omega (arith, faces_long l x) in
         let i_is : turn (way_of i) ≡ i = turn_way i (omega arith) in
         let j_is : turn (way_of j) ≡ j = turn_way j four in
-        corners_differ f f_low i j less four
-        (cc (corner_is l x f (way_of i) f_low, corner_is l x f (way_of j) f_low))
+        search (rules, corners_differ, corner_is)
 
     -- Darts with the same ends are one, and those with exchanged ends lie over each other.
     starts_same : {d e : CellDart} → IsDart l x d → IsDart l x e → vertex_number l x (dart_start l x d)
@@ -192,8 +175,7 @@ module _ {l : Gluing} {x : Lengths} (laid : IsSurface l) (len : AreLengths l x) 
 
     across_is_twin : (d e : CellDart) → IsDart l x d → IsAcross l x laid len d e
         → IsTwin (new_faces l x) (dart_number l x d) (dart_number l x e)
-    across_is_twin d e is a =
-        let ends = across_ends laid len is a in search (rules, dart_low, number_from, number_to)
+    across_is_twin d e is a = let ends = across_ends laid len is a in search (rules, dart_low, number_from, number_to)
 
     pub across_twin : (d e : CellDart) → IsDart l x d → IsAcross l x laid len d e
         → twin_of (new_faces l x) (dart_number l x d) ≡ Some (dart_number l x e)

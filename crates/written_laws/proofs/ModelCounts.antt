@@ -49,7 +49,6 @@ used_dart F v quads used =
     let (f, face, f_low, is, t) = Any-from_list_any (λ face. list_any (λ u. u == v) face) F used in
     let (i, u, m, at, s) =
     Any-from_list_any (λ u. u == v) (get_or F f []) (rw (get_or_default F f [] face f_low ∙ is) t) in
-    let four = quads f f_low in
     let face_is : (4 * f + i) / 4 ≡ f = omega arith in
     let place : (4 * f + i) % 4 ≡ i = omega arith in
     (4 * f + i, omega arith, cc (get_or_default (get_or F f []) i 0 u m, eqb-true u v s))
@@ -119,8 +118,7 @@ module _ (l : Gluing) (x : Lengths) (laid : IsSurface l) (len : AreLengths l x) 
     arith,
     arc_sum l.arcs (λ a low. low),
     count_sums (λ p. (wide l x p - 1) * (high l x p - 1)) (λ p. wide l x p * high l x p) (flats l x) (steeps l x)
-        l.patches (λ p low. rectangle (wide l x p) (high l x p) (wide_some l x laid.paved len p low)
-        (high_some l x laid.paved len p low)),
+        l.patches (search (rules, wide_some, high_some)),
   )
     where
       arc_sum : (n : ℕ) → ((a : ℕ) → a < n → a < l.arcs) → count_below (λ a. x a - 1) n + n ≡ count_below x n
@@ -148,10 +146,9 @@ module _ (l : Gluing) (x : Lengths) (laid : IsSurface l) (len : AreLengths l x) 
     }
 
     pub used_is : used_count F ≡ vertices l x
-    used_is = count_is by_vertex by_point
-        (λ d e is_d is_e same. model.alike d e is_d is_e
-        (number_same l x _ _ (from_is l x laid len d is_d) (from_is l x laid len e is_e) same))
-        (λ d e is_d is_e same. ap (vertex_number l x) (model.apart d e is_d is_e same))
+    used_is = count_is by_vertex by_point (λ d e is_d is_e same. model.alike d e is_d is_e
+        (search (rules, number_same, from_is))) (λ d e is_d is_e same. ap (vertex_number l x)
+        (model.apart d e is_d is_e same))
 
     -- The lesser dart of an edge, or the only one.
     abbrev IsLesser : (d : CellDart) → Type 0
@@ -178,11 +175,10 @@ module _ (l : Gluing) (x : Lengths) (laid : IsSurface l) (len : AreLengths l x) 
 
     -- Lesser darts of one edge are one.
     lesser_once : (d e : CellDart) → IsLesser d → IsLesser e → (course_of l x d).edge ≡ (course_of l x e).edge → d ≡ e
-    lesser_once d e (is_d, d_less) (is_e, e_less) edges =
-        elim (alike_or_turned _ _) [
-          | inl ways ↦ course_once l x laid len is_d is_e (λ t. course (edges t) (ways t))
-          | inr ways ↦ search (rules, across_back)
-        ]
+    lesser_once d e (is_d, d_less) (is_e, e_less) edges = elim (alike_or_turned _ _) [
+      | inl ways ↦ course_once l x laid len is_d is_e (λ t. course (edges t) (ways t))
+      | inr ways ↦ search (rules, across_back)
+    ]
 
     -- Edges, by their lesser darts.
     by_lesser : AreNumbers IsLesser cell (λ k. is_lesser k (twin_of F k)) (darts F)
@@ -199,8 +195,7 @@ module _ (l : Gluing) (x : Lengths) (laid : IsSurface l) (len : AreLengths l x) 
 
     pub edges_are : edge_count F ≡ edge_total l x
     edges_are = count_is by_lesser by_edge
-        (λ d e is_d is_e same. ap cell (lesser_once d e is_d is_e
-        (edge_same l x _ _ (course_is l x laid len is_d.0) (course_is l x laid len is_e.0) same)))
+        (λ d e is_d is_e same. ap cell (search (rules, lesser_once, edge_same, course_is)))
         (λ d e is_d is_e same.
         ap (λ (c : CellDart). edge_number l x (course_of l x c).edge) (model.same d e is_d.0 is_e.0 same))
 

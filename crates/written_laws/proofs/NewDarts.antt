@@ -77,14 +77,12 @@ module _ (l : Gluing) (x : Lengths) where
   dart_same d e is_d is_e same =
       let turn_same : turn d.way ≡ turn e.way = omega (arith, turn_low) in
       let way_same : d.way ≡ e.way = cc (way_turn d.way, way_turn e.way) in
-      let s = cell_once (wide l x) (high l x) l.patches (cell_of d is_d) (cell_of e is_e)
-      (omega (arith, turn_low d.way, turn_low e.way)) in
+      let s = cell_once _ _ _ (cell_of d is_d) (cell_of e is_e) (omega (arith, turn_low d.way, turn_low e.way)) in
       λ t. dart (s.0 t) (s.1 t) (s.2 t) (way_same t)
 
   -- The corners of the new faces.
   pub corner_is : (f : ℕ) (w : Way) → f < face_count l x → corner (new_faces l x) f (turn w) ≡ cell_vertex l x f w
-  corner_is f w low = cc
-      (get_or-map-range_with_len (new_face l x) 0 (face_count l x) f f [] low (omega arith), by_way w)
+  corner_is f w low = cc (get_or-map-range_with_len (new_face l x) 0 _ f f [] low (omega arith), by_way w)
     where
       by_way : (w : Way) → slice_index_or (new_face l x f) (turn w) 0 ≡ cell_vertex l x f w
       by_way = elim [ south ↦ refl | east ↦ refl | north ↦ refl | west ↦ refl ]
@@ -110,9 +108,7 @@ module _ (l : Gluing) (x : Lengths) where
   module _ (laid : IsSurface l) (len : AreLengths l x) where
     -- The darts of a new face lie in a patch.
     pub cell_is : (f : ℕ) (w : Way) → f < face_count l x → IsDart l x (dart_of l x f w)
-    cell_is f w low =
-        let c = (cell_here (wide l x) (high l x) l.patches f low).0 in
-        record { patch_low = c.low; i_low = c.column; j_low = c.row }
+    cell_is f w low = let c = (cell_here (wide l x) (high l x) l.patches f low).0 in search rules
 
     -- Each dart of the new faces is that of a cell.
     pub at_number : (n : ℕ) → n < darts (new_faces l x) → (d : CellDart) × IsDart l x d × (dart_number d ≡ n)

@@ -1,27 +1,25 @@
 -- The points inside patches and along arcs are regular, and the vertex of a node has the same kind and as many faces in
 -- each model, whatever the lengths.
-use Rattle.std.proofs.Common.{rules, ◌≡◌, ◌≢◌, ◌⊎◌, ℕ, zero, suc, ◌+◌, ◌-◌, ◌<◌, true, false, not, Some, None, refl}
-use Rattle.std.proofs.Common.{sym, ◌∙◌, ap, subst, inl, inr, arith, ◌≤◌, Bool}
-use Rattle.std.proofs.lemmas.{Bool.cond-false, Bool.eq-eqb, Bool.cases_eq, Bool.eqb-true, Option.none-some}
-use Rattle.std.specs.Prelude.{◌==◌}
-use Rattle.def_mesh.specs.{Darts.darts, Darts.from_of, Darts.prev_of, Darts.twin_of, Darts.to_of}
-use Rattle.def_mesh.specs.{HalfEdges.IsQuadManifold, HalfEdges.AreTurned, HalfEdges.Turns, HalfEdges.half_edges}
+use Rattle.std.proofs.Common.{rules, ◌≡◌, ◌≢◌, ◌⊎◌, ℕ, zero, suc, ◌+◌, ◌-◌, ◌<◌, true, false, Some, None, refl, sym}
+use Rattle.std.proofs.Common.{◌∙◌, ap, subst, inl, inr, arith, ◌≤◌, Bool}
+use Rattle.std.proofs.lemmas.Bool.{cond-false, eq-eqb, cases_eq, eqb-true}
+use Rattle.def_mesh.specs.Darts.{darts, from_of, prev_of, twin_of, to_of}
 use Rattle.def_mesh.specs.{Faces.Faces, Vertices.faces_at, Kinds.is_inner, Kinds.is_regular}
+use Rattle.def_mesh.specs.HalfEdges.{IsQuadManifold, AreTurned, Turns, half_edges}
 use Rattle.def_layout.specs.Gluings.{south, east, north, west, Gluing, Slot, IsSlot, use_of, start_node, end_node}
-use Rattle.def_layout.specs.{Cells.CellDart, Cells.IsDart, Cells.dart, Cells.prev, Cells.slot_dart, Cells.next}
 use Rattle.def_layout.specs.{declared.tmesh.SideArc.SideArc, Surfaces.IsSurface, Surfaces.IsOtherSlot, Lengths.Lengths}
-use Rattle.def_layout.specs.{Lengths.AreLengths}
-use Rattle.def_written.specs.{Points.along, Points.inside, Points.IsPoint, Points.use_point, Points.Point, Points.node}
-use Rattle.def_written.specs.{NewFaces.dart_start}
+use Rattle.def_layout.specs.Cells.{CellDart, IsDart, dart, prev, slot_dart, next}
+use Rattle.def_written.specs.Points.{along, inside, IsPoint, Point, node}
 use Rattle.face_laws.proofs.FullCuts.{has_fan, inner_twin, cross_regular}
 use Rattle.written_laws.proofs.Sides.{arc_inner, first_is, use_begins, use_ends, use_inner, use_some, use_sort}
+use Rattle.written_laws.proofs.{Borders.inner_from, Courses.IsAcross, Courses.across_or_alone, Fans.rim_slot}
+use Rattle.written_laws.proofs.{Fans.spot_once, NewDarts.prev_is, NewDarts.next_is, ModelCounts.IsModel}
 use Rattle.written_laws.proofs.Borders.{spot_dart, at_is, at_from, at_to, IsSpot, spot_is, spot_from, sort_spot}
-use Rattle.written_laws.proofs.Borders.{inner_from}
 use Rattle.written_laws.proofs.Courses.{IsAlone, across_within, alone_not_across, rim_turn, spot_back, border_turn}
-use Rattle.written_laws.proofs.Courses.{IsAcross, across_or_alone}
-use Rattle.written_laws.proofs.{Rims.point_inside, Rims.dart_is, Rims.next_prev, Fans.rim_slot, Fans.spot_once}
-use Rattle.written_laws.proofs.{Fans.not_self, Fans.not_twice, NewDarts.prev_is, NewDarts.next_is, ModelCounts.IsModel}
-use Rattle.written_laws.proofs.{Spacings.AreNumbers, Spacings.numbers_le, Spacings.filter_long}
+use Rattle.written_laws.proofs.Rims.{point_inside, dart_is, next_prev}
+use Rattle.written_laws.proofs.Spacings.{AreNumbers, numbers_le, filter_long}
+use Rattle.{std.proofs.lemmas.Option.none-some, std.specs.Prelude.◌==◌, def_layout.specs.Lengths.AreLengths}
+use Rattle.def_written.specs.NewFaces.{dart_start}
 use Rattle.face_laws.proofs.FullCuts as MeshFans
 
 -- A vertex is regular where two faces lie between two edges with one dart.
@@ -61,8 +59,7 @@ module _ (F : Faces) (laws : IsQuadManifold (half_edges F)) (d a : ℕ) (low : d
           let most = fan.most 2 pick (λ x leaves.
           let t = laws.one_fan d x low leaves.low (sym leaves.at) in
           elim (one_of_two t.0 x t.1) [ inl e ↦ (0, omega arith, sym e) | inr e ↦ (1, omega arith, sym e) ]) in
-          let least = fan.least 2 pick
-          (record { each = λ j less. record { low = (by_place j).0; at = (by_place j).1 }; apart = apart }) in
+          let least = fan.least 2 pick (search (rules, by_place)) in
           omega arith
         where
           by_place : (j : ℕ) → (pick j < darts F) × (from_of F (pick j) ≡ from_of F d)
@@ -81,8 +78,7 @@ module _ {l : Gluing} {x : Lengths} {laid : IsSurface l} {len : AreLengths l x} 
   alone_twin : (w : Slot) (o : ℕ) → IsSlot l w → o < x (use_of l w).arc → ((v : Slot) → ¬ IsOtherSlot l w v)
       → twin_of F (cell (slot_dart l x w o)) ≡ None
   alone_twin w o is less none =
-      let s : IsAlone laid len (slot_dart l x w o) w o =
-      record { on_border = record { is_slot = is; low = less; dart = refl }; alone = none } in
+      let s : IsAlone laid len (slot_dart l x w o) w o = search rules in
       model.alone (slot_dart l x w o) (at_is l x laid.paved len w o is less) (λ e. alone_not_across laid len e s)
 
 module _ {l : Gluing} {x : Lengths} {laid : IsSurface l} {len : AreLengths l x} {F : Faces} {cell : CellDart → ℕ}
@@ -110,13 +106,12 @@ module _ {l : Gluing} {x : Lengths} {laid : IsSurface l} {len : AreLengths l x} 
       let is : IsDart l x (dart p i j south) = record { patch_low = p_low; i_low = i_low; j_low = j_low } in
       let same = model.alike e (dart p i j south) is_e is (leaves
       ∙ sym (point_inside l x laid len p i j i_some i_low j_some j_low)) in
-      rw same (cross_at
-      (across_within laid len (dart p i j west) (p_low, i_some, i_low, j_low))
+      rw same (cross_at (across_within laid len (dart p i j west) (p_low, i_some, i_low, j_low))
       (across_within laid len (dart p (i - 1) j south) (p_low, omega arith, j_some, j_low))
       (across_within laid len (dart p (i - 1) (j - 1) east) (p_low, omega arith, omega arith, omega arith))
       (subst (IsAcross l x laid len (dart p (i - 1 + 1) (j - 1) north)) (dart_is p south (omega arith) (omega arith))
       (across_within laid len (dart p (i - 1 + 1) (j - 1) north) (p_low, omega arith, omega arith, omega arith)))
-      (λ s. let w : south ≡ north = ap (λ (d : CellDart). d.way) s in cc))
+      (search rules))
 
   pub along_regular : (a k : ℕ) (e : CellDart) → IsPoint l x (along a k) → IsDart l x e → dart_start l x e ≡ along a k
       → is_regular F (from_of F (cell e)) ≡ true
@@ -125,8 +120,7 @@ module _ {l : Gluing} {x : Lengths} {laid : IsSurface l} {len : AreLengths l x} 
       let long = ap (λ (u : SideArc). x u.arc) used in
       let w_less : k < x (use_of l w).arc = omega (arith, long) in
       let is = at_is l x laid.paved len w k is_w w_less in
-      let same = model.alike e (slot_dart l x w k) is_e is (leaves ∙ sym (at_from l x laid len w k is_w w_less
-      ∙ ap (λ (u : SideArc). use_point l x u k) used ∙ arc_inner l x a k some less)) in
+      let same = model.alike e (slot_dart l x w k) is_e is (leaves ∙ sym (search (rules, at_from, arc_inner))) in
       let turn = rim_turn laid len w k is_w w_less (omega arith) in
       rw same (elim (laid.other w is_w) [
         | inl (u, other) ↦
@@ -136,12 +130,10 @@ module _ {l : Gluing} {x : Lengths} {laid : IsSurface l} {len : AreLengths l x} 
             (rim_turn laid len u (x (use_of l w).arc - k) other.0 u_less (omega arith))
             (border_turn laid len u w (x (use_of l w).arc - k) k other.0 (
               is_w,
-              record { arc = sym other.1.arc; turned = sym (ap not other.1.turned ∙ not_twice (use_of l w).forward) },
-            ) (omega arith) u_less (omega arith))
-            (λ s. not_self (use_of l w).forward
-            (rw (← rim_slot laid.paved len is_w other.0 w_less u_less s) at other.1.turned))
+              search rules,
+            ) (omega arith) u_less (omega arith)) (search (rules, rim_slot))
         | inr none ↦ edge_regular F laws (cell (slot_dart l x w k)) (cell (spot_dart l x w k true)) (model.low _ is)
-            (turn_twin is turn) (ap (twin_of F) (prev_cell turn.is_dart ∙ ap cell (spot_back laid len w k some))
+            (turn_twin is turn) (ap (twin_of F) (search (rules, prev_cell, spot_back))
             ∙ alone_twin model w (k - 1) is_w (omega arith) none) (alone_twin model w k is_w w_less none)
       ])
 
@@ -163,11 +155,7 @@ module _ {l : Gluing} {x : Lengths} (laid : IsSurface l) (len : AreLengths l x) 
     | inl i ↦ let b = inner_from l x laid len d i in absurd cc
     | inr (w, o, b, s) ↦
         let at = spot_from l x laid len s in
-        elim (use_sort l x (use_of l w) o s.low) [
-          | inl (z, e) ↦
-              let first : IsSpot l x d w 0 b = rw z at s in (w, b, search (rules, first), first)
-          | inr (some, e) ↦ absurd cc
-        ]
+        elim (use_sort l x (use_of l w) o s.low) [ inl (z, e) ↦ search rules | inr (some, e) ↦ absurd cc ]
   ]
 
   node_spot : {n : ℕ} {w : Slot} {b : Bool} → IsNodeSpot l n w b
@@ -221,12 +209,10 @@ module _ {l : Gluing} {x : Lengths} {laid : IsSurface l} {len : AreLengths l x} 
     inner_only inner w is ends = elim (laid.other w is) [
       | inl u ↦ u
       | inr none ↦ absurd (elim ends [
-        | inl e ↦ alone 0 some none (λ is_d. inl (is_v.there _ is_d
-            (cc (at_from l x laid len w 0 is some, use_begins l x (use_of l w) some))))
+        | inl e ↦ alone 0 some none (λ is_d. inl (is_v.there _ is_d (search (rules, at_from, some, use_begins))))
         | inr e ↦ alone (x (use_of l w).arc - 1) (omega (arith, some)) none (λ is_d. inr (cc (
           model.turned _ is_d,
-          is_v.there _ (next_is l x _ is_d) (at_to l x laid len w _ is (omega (arith, some))
-              ∙ use_ends l x (use_of l w) _ (omega (arith, some)) (omega arith) ∙ ap node e),
+          is_v.there _ (next_is l x _ is_d) (search (rules, at_to, some, use_ends)),
         )))
       ])
     ]

@@ -36,8 +36,7 @@ module _ (m : HalfEdges) (laws : IsQuadManifold m) (l : Gluing) (x : Lengths) (p
         let on : (use_of l v).forward ≡ true = cc in
         let there = s.ahead v _ other.0 k_low on ∙ ap (λ a. arc_dart a (x (use_of l w).arc - 1 - o)) other.1.arc in
         cc (laws.twin_twin (arc_dart (use_of l w).arc (x (use_of l w).arc - 1 - o)) (cell (slot_dart l x w o))
-        (s.arc_low (use_of l w).arc (x (use_of l w).arc - 1 - o) (paved.arc_low w is) (omega arith))
-        (s.behind w o is less e))
+        (search rules) (s.behind w o is less e))
   ]
     where
       k_low : x (use_of l w).arc - 1 - o < x (use_of l v).arc
@@ -76,10 +75,7 @@ module _ (m : HalfEdges) (laws : IsQuadManifold m) (l : Gluing) (x : Lengths) (p
       let low = paved.arc_low w is in
       let less : x (use_of l w).arc - 1 < x (use_of l w).arc = omega (arith, some is) in
       elim (cases_Bool (use_of l w).forward) [
-        | inl e ↦ (
-          search (rules, s.ahead, s.first_at, some),
-          search (rules, s.ahead, s.last_at, some),
-        )
+        | inl e ↦ search rules
         | inr e ↦
             let first : x (use_of l w).arc - 1 - 0 ≡ x (use_of l w).arc - 1 = omega arith in
             let last : x (use_of l w).arc - 1 - (x (use_of l w).arc - 1) ≡ 0 = omega arith in (
@@ -116,11 +112,9 @@ module _ (m : HalfEdges) (laws : IsQuadManifold m) (l : Gluing) (x : Lengths) (p
   meet : (w : Slot) → IsSlot l w → end_node l (use_before l w) ≡ start_node l (use_of l w)
   meet w is =
       let is_b = before_is l x paved len w is in
-      s.vertex_same _ _
-      (start_low (use_before l w) (paved.arc_low (slot_before l w.patch w.side w.at) is_b)).1
-      (start_low (use_of l w) (paved.arc_low w is)).0
-      (cc (
-        (node_ends (slot_before l w.patch w.side w.at) is_b).1,
+      s.vertex_same _ _ (start_low _ (paved.arc_low (slot_before l w.patch w.side w.at) is_b)).1
+      (start_low _ (paved.arc_low w is)).0 (cc (
+        (node_ends _ is_b).1,
         s.turned (slot_dart l x (slot_before l w.patch w.side w.at) (x (use_before l w).arc - 1)),
         before_related paved len from_turning w is,
         starts w is,
@@ -134,10 +128,7 @@ module _ (m : HalfEdges) (laws : IsQuadManifold m) (l : Gluing) (x : Lengths) (p
       let o_low : x (use_of l b).arc - 1 < x (use_of l b).arc = omega (arith, some is_b) in
       let zero_is : o - o ≡ 0 = omega arith in
       let (c, spot, at) = before_spot paved len w is in
-      let here : next (slot_dart l x b o) ≡ slot_dart l x w 0 = elim (cases_Bool c) [
-        | inl on ↦ absurd (omega (arith, spot.behind on, ap (reach l x w.patch w.side) first))
-        | inr off ↦ spot.dart ∙ ap (spot_dart l x w 0) off
-      ] in
+      let here : next (slot_dart l x b o) ≡ slot_dart l x w 0 = search rules in
       let twin = over_twin b w o is_b (is, rev) o_low ∙ ap (λ k. Some (cell (slot_dart l x w k))) zero_is
       ∙ ap (λ (d : CellDart). Some (cell d)) (sym here) ∙ ap Some (s.turned _) in search (rules, low_at)
 
@@ -182,16 +173,10 @@ module _ (faces : Faces) (manifold : IsManifold faces) (l : Gluing) (x : Lengths
     where
       alike : (v : Slot) → IsSlot l v → (use_of l v).arc ≡ (use_of l w).arc
           → (use_of l v).forward ≡ (use_of l w).forward
-      alike v is_v arc = elim (alike_or_turned _ _) [
-        | inl same ↦ sym same
-        | inr turned ↦ absurd (a.alone v (is_v, record { arc = arc; turned = turned }))
-      ]
+      alike v is_v arc = elim (alike_or_turned _ _) [ inl same ↦ sym same | inr turned ↦ search rules ]
 
   alone : (d : CellDart) → IsDart l x d → ((e : CellDart) → ¬ IsAcross l x old_laid len d e) → m.twin (cell d) ≡ None
-  alone d is none = elim (across_or_alone old_laid len d is) [
-    | inl a ↦ absurd (none a.0 a.1)
-    | inr a ↦ alone_twin a.2
-  ]
+  alone d is none = elim (across_or_alone old_laid len d is) [ inl a ↦ absurd (none a.0 a.1) | inr a ↦ alone_twin a.2 ]
 
   -- What the mesh tells to be the twin lies across.
   pub twin_is_across : (d e : CellDart) → IsDart l x d → IsDart l x e → m.twin (cell d) ≡ Some (cell e)
@@ -233,8 +218,7 @@ module _ (faces : Faces) (manifold : IsManifold faces) (l : Gluing) (x : Lengths
       → dart_start l x d ≡ dart_start l x e
   apart d e is_d is_e same =
       let t = laws.one_fan _ _ (s.low d is_d) (s.low e is_e) same in
-      turned_on (λ c. dart_start l x d ≡ dart_start l x c)
-      (λ c e is_c is_e turn before. before ∙ turned_point c e is_c is_e turn) is_d refl t.0 e is_e t.1
+      turned_on (λ c. dart_start l x d ≡ dart_start l x c) (search (rules, turned_point)) is_d refl t.0 e is_e t.1
 
   pub old_model : ((f : ℕ) → f < length faces → length (face_at faces f) ≡ 4) → IsModel faces l x old_laid len cell
   old_model quads = search (rules, alike, apart, across_twin, alone)
@@ -245,14 +229,12 @@ module _ (faces : Faces) (manifold : IsManifold faces) (l : Gluing) (x : Lengths
   slot_turn {d} {e} {w} {u} {b} is_d is_e at_w at_u twin =
       let before = slot_before l w.patch w.side w.at in
       let is_b = before_is l x paved len w at_w.is_slot in
-      let some = use_some l x paved len before is_b in
       let last = slot_dart l x before (x (use_of l before).arc - 1) in
-      let less : x (use_of l before).arc - 1 < x (use_of l before).arc = omega (arith, some) in
+      let less : x (use_of l before).arc - 1 < x (use_of l before).arc = omega arith in
       let (k, spot, first) = before_spot paved len w at_w.is_slot in
       elim (alike_or_turned b k) [
         | inl same ↦
-            let here : prev d ≡ last = ap prev (at_w.dart ∙ (λ t. spot_dart l x w 0 (same t)) ∙ sym spot.dart)
-            ∙ prev_next last in
+            let here : prev d ≡ last = search (rules, prev_next) in
             elim (s.other before is_b) [
               | inl (v, o) ↦
                   let zero_is : x (use_of l before).arc - 1 - (x (use_of l before).arc - 1) ≡ 0 = omega arith in
@@ -265,20 +247,14 @@ module _ (faces : Faces) (manifold : IsManifold faces) (l : Gluing) (x : Lengths
                   let at_e : IsSpot l x e v 0 false = rw there at_v in
                   let one = (spot_once paved len at_u at_e).0 in
                   inr (record { is_slot = at_u.is_slot; reverse = rw one o.1 })
-              | inr none ↦ absurd (none-some (cell e) (cc (
-                alone_twin {d = last} {w = before} {o = x (use_of l before).arc - 1}
-                    (record { on_border = record { is_slot = is_b; low = less; dart = refl }; alone = none }),
-                prev_cell d,
-              )))
+              | inr none ↦ search (rules, alone_twin, dart, alone, prev_cell)
             ]
         | inr other ↦ elim (cases_Bool b) [
           | inl on ↦ absurd (omega (arith, at_w.behind on, ap (reach l x w.patch w.side) (first (other ∙ ap not on))))
           | inr off ↦
               let far = spot.behind (other ∙ ap not off) in
               let a = rim_turn old_laid len w 0 at_w.is_slot at_w.low far in
-              let here : d ≡ slot_dart l x w 0 = at_w.dart ∙ ap (spot_dart l x w 0) off in
-              let t = across_twin (prev (slot_dart l x w 0)) _
-              (prev_is l x _ (at_is l x paved len w 0 at_w.is_slot at_w.low)) a in
+              let t = across_twin (prev (slot_dart l x w 0)) _ (search (rules, prev_is, at_is)) a in
               let one = s.same e (spot_dart l x w 0 true) is_e a.is_dart (cc (prev_cell d)) in
               let there = (spot_is l x old_laid len {o = 0} true at_w.is_slot at_w.low (λ q. far)).1 in
               let at_e : IsSpot l x e w 0 true = rw one there in
@@ -292,11 +268,10 @@ module _ (faces : Faces) (manifold : IsManifold faces) (l : Gluing) (x : Lengths
       let a = spot_is l x old_laid len {o = 0} false is_v (use_some l x paved len v is_v) (λ e. absurd cc) in
       let b = spot_is l x old_laid len {o = 0} false is_w (use_some l x paved len w is_w) (λ e. absurd cc) in
       let t = laws.one_fan _ _ (s.low _ a.0) (s.low _ b.0) (cc (
-        starts m laws l x paved len cell vertex arc_dart s v is_v,
-        starts m laws l x paved len cell vertex arc_dart s w is_w,
+        starts m laws l x paved len _ vertex _ s v is_v,
+        starts m laws l x paved len cell _ arc_dart s w is_w,
       )) in
-      turned_on (λ c. (u : Slot) (b : Bool) → IsSpot l x c u 0 b → (k : ℕ) × SlotTurns l v u k) step a.0
-      (λ u b at. (zero, (spot_once paved len a.1 at).0)) t.0 (slot_dart l x w 0) b.0 t.1 w false b.1
+      turned_on _ step a.0 (λ u b at. (zero, (spot_once paved len a.1 at).0)) t.0 _ b.0 t.1 w false b.1
     where
       step : (c e : CellDart) → IsDart l x c → IsDart l x e → AreTurned (half_edges faces) (cell c) (cell e)
           → ((u : Slot) (b : Bool) → IsSpot l x c u 0 b → (k : ℕ) × SlotTurns l v u k)
@@ -304,7 +279,7 @@ module _ (faces : Faces) (manifold : IsManifold faces) (l : Gluing) (x : Lengths
       step c e is_c is_e turned before u b at_u =
           let leaves = turned_point c e is_c is_e turned ∙ spot_from l x old_laid len at_u
           ∙ use_begins l x (use_of l u) at_u.low in
-          let (z, i, node, at_z) = node_sort old_laid len (start_node l (use_of l u)) is_c leaves in
+          let (z, i, node, at_z) = node_sort old_laid len _ is_c leaves in
           let r = before z i at_z in
           elim turned [
             | inl twin ↦ elim (slot_turn is_c is_e at_z at_u twin) [

@@ -87,11 +87,6 @@ prev_next d = ap (dart d.patch d.i d.j) (before_after d.way)
 pub dart_is : (p : ℕ) (w : Way) {i j k n : ℕ} → i ≡ k → j ≡ n → dart p i j w ≡ dart p k n w
 dart_is p w a b = λ t. dart p (a t) (b t) w
 
--- A cell holds darts of all four ways.
-pub is_dart : {l : Gluing} {x : Lengths} (p i j : ℕ) (w : Way) → p < l.patches → i < wide l x p → j < high l x p
-    → IsDart l x (dart p i j w)
-is_dart p i j w low i_low j_low = record { patch_low = low; i_low = i_low; j_low = j_low }
-
 -- The edge along which a dart inside a patch runs, and the dart on its other side.
 abbrev pub inner_edge : (p i j : ℕ) (w : Way) → Edge
 inner_edge p i j south = flat p i j
@@ -162,11 +157,6 @@ module _ {l : Gluing} {x : Lengths} (paved : HasWholeSides l) (len : AreLengths 
       l x p s t)) × (over (prev (dart_along l x p s t)) ≡ next (dart_along l x p s (t - 1)))
   rim_within p s h1 h2 h3 = search (rules, high_some, wide_some)
 
-  -- Where the dart next to a border dart lies inside, the side goes on.
-  pub rim_ahead : (p : ℕ) (s : Way) (t : ℕ) → p < l.patches → t < size l x p s
-      → IsWithin l x (next (dart_along l x p s t)) → t + 1 < size l x p s
-  rim_ahead p s h1 h2 h3 = search rules
-
   -- Two darts inside in a row meet at a grid point inside.
   pub inner_at : (p i j : ℕ) (w : Way) → IsEdge l x (inner_edge p i j w) → IsEdge l x (inner_edge p i j (side_before w))
       → IsInner p (column i w) (row j w)
@@ -188,5 +178,4 @@ module _ (l : Gluing) (x : Lengths) (laid : IsSurface l) (len : AreLengths l x) 
 
   pub rim_to : (p : ℕ) (s : Way) (t : ℕ) → p < l.patches → t < size l x p s
       → dart_end l x (dart_along l x p s t) ≡ side_point l x p s (t + 1)
-  rim_to p s t low less =
-      let r = rim_grid laid.paved len p s t low less in search (rules, rim_patch, border_point)
+  rim_to p s t low less = let r = rim_grid laid.paved len p s t low less in search (rules, rim_patch, border_point)

@@ -1,30 +1,28 @@
 -- The new mesh has the shape of the old one, and the old one doubles no edge.
-use Rattle.std.proofs.Common.{rules, ◌≡◌, ℕ, ◌<◌, ◌≤◌, Bool, false, cond, not, ◌&&◌, refl, sym, ◌∙◌, ap, inl, inr}
-use Rattle.std.proofs.Common.{arith}
-use Rattle.def_mesh.specs.declared.Kind.TheVariants.{Regular, Singular, Corner, Reflex}
+use Rattle.std.proofs.Common.{rules, ◌≡◌, ℕ, ◌<◌, ◌≤◌, false, not, refl, sym, ◌∙◌, ap, inl, inr}
 use Rattle.def_mesh.specs.{Faces.Faces, Darts.from_of, Manifold.IsManifold, Vertices.faces_at, Vertices.vertex_count}
 use Rattle.def_mesh.specs.{Kinds.is_inner, Kinds.is_regular, HalfEdges.half_edges, HalfEdges.IsQuadManifold}
-use Rattle.def_mesh.specs.{declared.Kind.Kind}
-use Rattle.def_layout.specs.{Cells.CellDart, Cells.IsDart, Cells.next, Gluings.Gluing, Gluings.use_of}
-use Rattle.def_layout.specs.{Surfaces.HasWholeSides, Surfaces.IsSurface, Fans.HasFans, Lengths.Lengths}
-use Rattle.def_layout.specs.{Lengths.AreLengths, Embeddings.IsEmbedding}
-use Rattle.def_written.specs.{Laws.LiesInMesh, Laws.LaidLaw, Laws.NumbersLaw, Laws.NewManifoldLaw, Laws.KeepsShapeLaw}
-use Rattle.def_written.specs.{Laws.ThreeLaw, Laws.MultipleLaw, Points.Point, Points.node, Points.along, Points.inside}
-use Rattle.def_written.specs.{Points.IsPoint, Numbers.vertex_number, Numbers.vertices, NewFaces.dart_start}
-use Rattle.def_written.specs.{NewFaces.new_faces, Edges.IsEdge, Edges.IsUndoubled, Shape.IsKeptNode, Shape.KeepsShape}
-use Rattle.mesh_laws.proofs.{Chains.manifold_law, Flood.count_least}
+use Rattle.def_layout.specs.Cells.{CellDart, IsDart, next}
+use Rattle.def_layout.specs.{Gluings.Gluing, Gluings.use_of, Surfaces.HasWholeSides, Surfaces.IsSurface, Fans.HasFans}
+use Rattle.def_layout.specs.{Lengths.Lengths, Lengths.AreLengths, Embeddings.IsEmbedding}
+use Rattle.def_written.specs.Laws.{LiesInMesh, LaidLaw, NumbersLaw, NewManifoldLaw, KeepsShapeLaw, ThreeLaw}
+use Rattle.def_written.specs.{Laws.MultipleLaw, Numbers.vertices, NewFaces.dart_start, NewFaces.new_faces, Edges.IsEdge}
+use Rattle.def_written.specs.{Edges.IsUndoubled, Shape.IsKeptNode, Shape.KeepsShape}
+use Rattle.def_written.specs.Points.{Point, node, along, inside, IsPoint}
 use Rattle.written_laws.proofs.Courses.{Course, course, against, against_twice, against_ends, start_at, end_at}
 use Rattle.written_laws.proofs.Courses.{course_of, course_from, course_to, edge_dart}
+use Rattle.written_laws.proofs.{Fans.alike_or_turned, Sides.use_some, Sides.use_begins, Between.simple_from}
 use Rattle.written_laws.proofs.ModelCounts.{IsModel, used_dart, point_dart, new_model, euler_is}
 use Rattle.written_laws.proofs.OldModel.{old_laid, old_model, old_fans, twin_is_across, starts}
 use Rattle.written_laws.proofs.NodeKinds.{IsVertex, vertex_from, inside_regular, along_regular, faces_le, inner_to}
-use Rattle.written_laws.proofs.{NewDarts.dart_number, NewDarts.next_is, NewDarts.at_number, NewDarts.number_from}
-use Rattle.written_laws.proofs.{Fans.alike_or_turned, Borders.at_is, Borders.at_from, Borders.from_is}
-use Rattle.written_laws.proofs.{Doubling.lengths_scale, Doubling.simple_three, Doubling.simple_multiple, Sides.use_some}
-use Rattle.written_laws.proofs.{Sides.use_begins, EdgeNumbers.number_low, EdgeNumbers.number_same}
-use Rattle.written_laws.proofs.{EdgeNumbers.point_onto, Manifold.IsSimple, Manifold.simple_by, Manifold.manifold}
-use Rattle.written_laws.proofs.{Between.simple_from, Between.undoubled_from}
-use Rattle.{std.specs.Prelude.◌==◌, sum_laws.proofs.Tests.same_test}
+use Rattle.written_laws.proofs.NewDarts.{dart_number, next_is, at_number, number_from}
+use Rattle.written_laws.proofs.Borders.{at_is, at_from, from_is}
+use Rattle.written_laws.proofs.Doubling.{lengths_scale, simple_three, simple_multiple}
+use Rattle.written_laws.proofs.EdgeNumbers.{number_low, number_same, point_onto}
+use Rattle.written_laws.proofs.Manifold.{IsSimple, simple_by, manifold}
+use Rattle.{std.proofs.Common.arith, mesh_laws.proofs.Chains.manifold_law}
+use Rattle.{mesh_laws.proofs.Flood.count_least, written_laws.proofs.Between.undoubled_from}
+use Rattle.sum_laws.proofs.Tests.{same_test}
 
 module _ {faces : Faces} (man : IsManifold faces) {l : Gluing} {x : Lengths} (paved : HasWholeSides l)
     (len : AreLengths l x) {cell : CellDart → ℕ} {vertex : ℕ → ℕ} {arc_dart : ℕ → ℕ → ℕ}
@@ -34,9 +32,8 @@ module _ {faces : Faces} (man : IsManifold faces) {l : Gluing} {x : Lengths} (pa
 
   module _ (model : IsModel faces l x here len cell) where
     -- The course of a dart is told by its ends.
-    tell : {d : CellDart} (k : Course) → IsDart l x d → IsEdge l x k.edge
-        → start_at l x (course_of l x d) ≡ start_at l x k → end_at l x (course_of l x d) ≡ end_at l x k
-        → course_of l x d ≡ k
+    tell : {d : CellDart} (k : Course) → IsDart l x d → IsEdge l x k.edge → start_at l x (course_of l x d) ≡ start_at l
+        x k → end_at l x (course_of l x d) ≡ end_at l x k → course_of l x d ≡ k
     tell {d} k is_d is_k starts ends =
         let (e, is_e, edge) = edge_dart l x here len k.edge is_k in
         elim (alike_or_turned k.ahead (course_of l x e).ahead) [
@@ -65,9 +62,7 @@ module _ {faces : Faces} (man : IsManifold faces) {l : Gluing} {x : Lengths} (pa
     old_simple = simple_by {l = l} {x = x} (λ c k is_c is_k starts ends.
         let (d, is_d, edge) = edge_dart l x here len c.edge is_c in
         elim (alike_or_turned c.ahead (course_of l x d).ahead) [
-          | inl ways ↦
-              let a : course_of l x d ≡ c = λ t. course (edge t) (sym ways t) in
-              sym a ∙ tell k is_d is_k (ap (start_at l x) a ∙ starts) (ap (end_at l x) a ∙ ends)
+          | inl ways ↦ search (rules, tell)
           | inr ways ↦
               let a : course_of l x d ≡ against c = λ t. course (edge t) (ways t) in
               let c_ends = against_ends l x c in
@@ -75,11 +70,6 @@ module _ {faces : Faces} (man : IsManifold faces) {l : Gluing} {x : Lengths} (pa
               let same = tell (against k) is_d is_k (cc) (cc) in
               sym (against_twice c) ∙ ap against (sym a ∙ same) ∙ against_twice k
         ])
-
--- The kind of a vertex by what is counted there.
-kind_by : (inner : Bool) (many : ℕ) → Kind
-kind_by inner many =
-    cond (many == cond inner 4 2) Regular (cond inner Singular (cond (not inner && (many == 1)) Corner Reflex))
 
 module _ {l : Gluing} {x : Lengths} {laid : IsSurface l} {len : AreLengths l x} {F : Faces} {cell : CellDart → ℕ}
     (model : IsModel F l x laid len cell) (laws : IsQuadManifold (half_edges F)) where
@@ -108,12 +98,10 @@ module _ {faces : Faces} {l : Gluing} {x : Lengths} {vertex : ℕ → ℕ} (lies
   node_vertex : (n : ℕ) → n < l.nodes → IsVertex the_model (node n) (vertex n)
   node_vertex n low =
       let w = the_laid.reached n low in
-      let some = use_some l x lies.paved lies.lengths w.0 w.1 in
-      vertex_from the_model _
-      (at_is l x lies.paved lies.lengths w.0 0 w.1 some)
-      (cc (at_from l x the_laid lies.lengths w.0 0 w.1 some, use_begins l x (use_of l w.0) some))
-      (cc (starts (half_edges faces) (manifold_law faces lies.manifold) l x lies.paved lies.lengths lies.cell vertex
-      lies.arc_dart lies.sided w.0 w.1))
+      let some = use_some l x lies.paved lies.lengths _ w.1 in
+      vertex_from the_model _ (at_is l x lies.paved lies.lengths _ 0 w.1 some)
+      (cc (at_from l x the_laid lies.lengths _ 0 w.1 some, use_begins l x (use_of l w.0) some))
+      (cc (starts _ (manifold_law faces lies.manifold) l x lies.paved lies.lengths _ _ _ lies.sided _ w.1))
 
   module _ {y : Lengths} (lon : AreLengths l y) (undoubled : IsUndoubled l y) where
     new_is : IsModel (new_faces l y) l y the_laid lon (dart_number l y)
@@ -135,17 +123,13 @@ module _ {faces : Faces} {l : Gluing} {x : Lengths} {vertex : ℕ → ℕ} (lies
     same_inner : (n : ℕ) → n < l.nodes → is_inner (new_faces l y) n ≡ is_inner faces (vertex n)
     same_inner n low = search (rules, same_test, inner_to, new_node, node_vertex)
 
-    kept : (n : ℕ) → n < l.nodes → IsKeptNode faces (new_faces l y) vertex n
-    kept n low = search (rules, same_inner, same_faces)
-
     irregular : (v : ℕ) → v < vertex_count faces → is_regular faces v ≡ false
         → (n : ℕ) × (n < l.nodes) × (vertex n ≡ v) × IsKeptNode faces (new_faces l y) vertex n
     irregular v low off =
         let k = used_dart faces v lies.quads (lies.used v low) in
         let d = the_model.onto k.0 k.1 in
-        let leaves = ap (from_of faces) d.2 ∙ k.2 in
         let n = irregular_node the_model (manifold_law faces lies.manifold) d.0 d.1 (cc) in
-        (n.0, n.1, cc ((node_vertex n.0 n.1).there d.0 d.1 n.2), kept n.0 n.1)
+        (n.0, n.1, cc ((node_vertex n.0 n.1).there d.0 d.1 n.2), (search (rules, same_inner, same_faces)))
 
     below : vertex_count (new_faces l y) ≤ vertices l y
     below = count_least _ _ (λ k low.
@@ -159,9 +143,7 @@ module _ {faces : Faces} {l : Gluing} {x : Lengths} {vertex : ℕ → ℕ} (lies
         let a = point_onto l y v (omega (arith, low, below)) in
         let d = point_dart l y the_laid lon a.0 a.1 in
         let n = irregular_node new_is (manifold_law _ new_manifold) d.0 d.1 (cc (number_from l y d.0 d.1)) in
-        let e : n.0 ≡ v = cc (ap (vertex_number l y) n.2) in
-        let v_low : v < l.nodes = omega arith in
-        (v_low, (λ t. (sym (same_faces v v_low) t) == cond (sym (same_inner v v_low) t) 4 2) ∙ off)
+        search (rules, same_faces, same_inner)
 
     keeps : KeepsShape faces (new_faces l y) l.nodes vertex
     keeps = record {

@@ -57,9 +57,7 @@ module _ (l : Gluing) (x : Lengths) where
 
   pub place_on : (p : ℕ) (s : Way) (t : ℕ) → p < l.patches → t < size l x p s
       → IsOn p s t (use_over l x p s t) (offset_at l x p s t)
-  place_on p s t low less =
-      let h = run_here _ _ t less in
-      record { is_slot = record { patch_low = low; low = h.low }; inside = h.inside; place = h.place }
+  place_on p s t low less = let h = run_here _ _ t less in search rules
 
   -- An arc of a side ends on it.
   pub reach_low : (w : Slot) → IsSlot l w → reach l x w.patch w.side w.at + x (use_of l w).arc ≤ size l x w.patch w.side
@@ -88,16 +86,14 @@ module _ (l : Gluing) (x : Lengths) where
     side_end p s t low e =
         let long : reach l x p s (l.many p s - 1) + long_at p s (l.many p s - 1) ≡ size l x p s = last_reach p s low in
         let some : 0 < long_at p s (l.many p s - 1) = use_some (slot p s (l.many p s - 1)) (last_slot p s low) in
-        let over = run_last (reach l x p s) (l.many p s) t (paved.sides_full p s low) (omega (arith, long, e)) in
-        search rules
+        search (rules, run_last)
 
     -- The slot at the beginning of a side is its first one.
     pub first_is : (v : Slot) → IsSlot l v → reach l x v.patch v.side v.at ≡ 0 → v.at ≡ 0
     first_is v is none = elim (cases_eq v.at 0) [
       | inl e ↦ e
       | inr later ↦
-          let before : IsSlot l (slot v.patch v.side (v.at - 1)) =
-          record { patch_low = is.patch_low; low = omega (arith, is.low) } in
+          let before : IsSlot l (slot v.patch v.side (v.at - 1)) = search rules in
           let at : suc (v.at - 1) ≡ v.at = omega arith in
           absurd (omega (arith, use_some _ before, ap (reach l x v.patch v.side) at))
     ]
@@ -108,9 +104,7 @@ module _ (l : Gluing) (x : Lengths) where
     last_is w is end = elim (cases_lt (suc w.at) (l.many w.patch w.side)) [
       | inl more ↦
           let later : IsSlot l (slot w.patch w.side (suc w.at)) = record { patch_low = is.patch_low; low = more } in
-          let le = reach_low (slot w.patch w.side (suc w.at)) later in
-          let some : 0 < long_at w.patch w.side (suc w.at) = use_some (slot w.patch w.side (suc w.at)) later in
-          absurd (omega (arith, le, some, end))
+          search (rules, reach_low)
       | inr none ↦ omega (arith, is.low, none)
     ]
 
@@ -146,9 +140,6 @@ module _ (l : Gluing) (x : Lengths) where
                 cc (side_in 0 next some, use_begins (l.use_at w.patch w.side (suc w.at)) some, laid.meet _ next, ends)
             | inr last ↦
                 let m : w.at ≡ l.many w.patch w.side - 1 = omega arith in
-                let long = last_reach laid.paved len w.patch w.side is.patch_low in
-                let r = ap (reach l x w.patch w.side) m in
-                let u = ap (long_at w.patch w.side) m in
-                cc (side_end laid.paved len w.patch w.side t is.patch_low (omega (arith, long, r, u)), ends)
+                search (rules, last_reach, side_end)
           ]
     ]

@@ -1,14 +1,13 @@
 -- Laws of runs laid end to end.
 use Rattle.std.proofs.Common.{rules, ◌≡◌, ℕ, zero, suc, ◌+◌, ◌-◌, ◌*◌, ◌/◌, ◌%◌, ◌<◌, ◌≤◌, sym, ◌∙◌, ap, inl, inr}
-use Rattle.std.proofs.Common.{arith, Bool, true, false, refl, ◌⊎◌, [], ◌≢◌, cond, ◌∷◌, length}
+use Rattle.std.proofs.Common.{arith, Bool, true, false, refl, [], ◌≢◌, cond, ◌∷◌, length}
 use Rattle.std.proofs.lemmas.Bool.{cases_eq, cond_both, cond-false, ltb-true, eqb-false, eqb-true, ne_eqb, cases_Bool}
-use Rattle.std.proofs.Math.Nat.{mod-lt, div-lt_iff_lt-mul, mul_comm, le-div_iff_mul-le}
+use Rattle.std.proofs.Math.Nat.{mod-lt, div-lt_iff_lt-mul, mul_comm}
 use Rattle.std.proofs.lemmas.{Nat.mul-add-lt, Nat.same_from_place, Nat.div-mul-add, Nat.mul-le, List.length-append}
 use Rattle.std.specs.{Prelude.nat_lt, Prelude.◌==◌, List.filter, List.range_with_len}
 use Rattle.sum_laws.proofs.Sums.{count_below_ones, count_below_same}
 use Rattle.def_layout.specs.{Gluings.Gluing, Lengths.Lengths, Lengths.AreLengths}
-use Rattle.def_written.specs.Spacings.{counted, edge_begin, inner_step, shared_parameter, shared_step, step_parameter}
-use Rattle.def_written.specs.Spacings.{Shares}
+use Rattle.def_written.specs.Spacings.{edge_begin, inner_step, shared_parameter, shared_step, step_parameter, Shares}
 use Rattle.def_written.specs.{Laws.EvenSpacingLaw, Laws.SharedLaw, Places.ONE, Places.Step}
 use Rattle.{def_math.specs.Counts.count_below, def_math.specs.Runs.run_at, list_laws.proofs.Filters.filter_range_more}
 
@@ -111,21 +110,13 @@ module _ (w h : ℕ → ℕ) (n : ℕ) where
 
   pub cell_here : (t : ℕ) → t < count_below cells_of n → IsCell (block_at t) (rest_at t % w (block_at t)) (rest_at t / w
       (block_at t)) × (number_of (block_at t) (rest_at t % w (block_at t)) (rest_at t / w (block_at t)) ≡ t)
-  cell_here t low =
-      let run = run_here cells_of n t low in
-      let r = in_rows (w (block_at t)) (h (block_at t)) (rest_at t)
-      (rw (mul_comm (w (block_at t)) (h (block_at t))) at run.inside) in
-      (record { low = run.low; column = r.0; row = r.1 }, omega (arith, run.place, r.2))
+  cell_here t low = let run = run_here cells_of n t low in search rules
 
 -- Equal parts of the old lengths are a spacing, and equal parts of shares of the old edges.
 
 -- A quotient is below a number whose product is greater.
 pub div_less : (n k d : ℕ) → 0 < d → n < k * d → n / d < k
 div_less n k d some less = (div-lt_iff_lt-mul {k = d} {x = n} {y = k} some).1 less
-
--- A smaller part of the whole is less.
-times_less : (k n m : ℕ) → k < n → 0 < m → k * m < n * m
-times_less k n m less some = search rules
 
 module _ (l : Gluing) (old new : Lengths) (o_len : AreLengths l old) (n_len : AreLengths l new) where
   -- The old edge at a place of equal parts.
@@ -141,19 +132,6 @@ pub record IsInner (m : ℕ) (step : Step) : Type 0 where
 -- So many ones are that many.
 pub count_ones : (n : ℕ) → count_below (λ edge. 1) n ≡ n
 count_ones = count_below_ones
-
--- A number that is not 0 is more.
-positive : (n : ℕ) → (n ≡ 0 → ⊥) → 0 < n
-positive zero ne = absurd (ne refl)
-positive (suc n) ne = omega arith
-
--- A parameter is not 0 where one of its parts is not.
-sum_some : (edge part : ℕ) → (0 < edge) ⊎ (0 < part) → 0 < ONE * edge + part
-sum_some edge part some = omega arith
-
--- The shares that count are some.
-pub counted_some : (share : ℕ → ℕ) (m : ℕ) → 0 < m → 0 < count_below (counted share m) m
-counted_some share m some = search rules
 
 -- Where place k of n lies between the ends of an arc of m old edges.
 module _ (share : ℕ → ℕ) (m n k : ℕ) (m_some : 0 < m) (all_some : 0 < count_below share m) (less : k < n) where
@@ -179,15 +157,14 @@ module _ (share : ℕ → ℕ) (m n k : ℕ) (m_some : 0 < m) (all_some : 0 < co
   -- It does not lie at the beginning of the arc, where no new edge is shorter than the unit of parameters.
   inner_some : 0 < k → n ≤ ONE → 0 < step_parameter (inner_step share m n k)
   inner_some some few = elim (cases_eq edge 0) [
-    | inr ne ↦ sum_some edge _ (inl (positive edge ne))
+    | inr ne ↦ omega arith
     | inl first ↦
         let one : count_below share 1 ≤ count_below share m = count_rises share 1 m (omega arith) in
         let same : share edge ≡ share 0 = ap share first in
         let none : start edge ≡ n * 0 = ap start first in
         let all = mul-le 1 (count_below share m) k (count_below share m) some (omega arith) in
         let le = mul-le n (share edge) ONE (before - start edge) few (omega arith) in
-        sum_some edge _ (inr ((le-div_iff_mul-le {k = n * share edge} {x = 1} {y = ONE * (before - start edge)}
-        share_some).1 (omega arith)))
+        search (rules, share_some)
   ]
 
 module _ (l : Gluing) (old new : Lengths) (shares : Shares) (o_len : AreLengths l old) (n_len : AreLengths l new) where
@@ -196,21 +173,18 @@ module _ (l : Gluing) (old new : Lengths) (shares : Shares) (o_len : AreLengths 
   step_is a k low less = cond_both (k == 0) (edge_begin 0) _ (IsInner (old a))
       (λ e. record { edge = o_len.some a low; part = omega arith; parts = refl }) (λ e. cond_both (k == new a)
       (edge_begin (old a)) _ (IsInner (old a)) (λ same. absurd (omega (arith, eqb-true k (new a) same)))
-      (λ ne. inner_is _ _ _ k (o_len.some a low) (counted_some _ _ (o_len.some a low)) less))
+      (λ ne. inner_is _ _ _ k (o_len.some a low) (search rules) less))
 
   module _ (few : (a : ℕ) → a < l.arcs → new a ≤ ONE) where
     parameter_some : (a k : ℕ) → a < l.arcs → 0 < k → k ≤ new a → 0 < step_parameter (shared_step old new shares a k)
     parameter_some a k low some le = cond_both (k == 0) (edge_begin 0) _ (λ s. 0 < step_parameter s)
         (λ e. absurd (omega (arith, eqb-true k 0 e))) (λ e. cond_both (k == new a) (edge_begin (old a)) _ (λ s. 0
         < step_parameter s) (λ same. omega (arith, o_len.some a low)) (λ ne. inner_some _ _ _ k (o_len.some a low)
-        (counted_some _ _ (o_len.some a low)) (search (rules, eqb-false k (new a) ne)) some (few a low)))
+        (search rules) (search (rules, eqb-false k (new a) ne)) some (few a low)))
 
     begins_at : (a : ℕ) (forward : Bool) → a < l.arcs → shared_parameter old new shares a forward 0 ≡ 0
     begins_at a true low = refl
     begins_at a false low = search rules
-
-    ends_at : (a : ℕ) (forward : Bool) → a < l.arcs → shared_parameter old new shares a forward (new a) ≡ ONE * old a
-    ends_at a forward h1 = search rules
 
     below_end : (a : ℕ) (forward : Bool) (k : ℕ) → a < l.arcs → k < new a
         → shared_parameter old new shares a forward k < ONE * old a
@@ -220,21 +194,17 @@ module _ (l : Gluing) (old new : Lengths) (shares : Shares) (o_len : AreLengths 
 
 pub even_law : EvenSpacingLaw
 even_law l old new o_len n_len = record {
-  begins = λ a forward low.
-      let less = div_less (ONE * 0 * old a) 1 (new a) (n_len.some a low) (omega (arith, n_len.some a low)) in
-      omega arith;
+  begins = search rules;
   ends = λ a forward low.
       let by_parts : (n m : ℕ) → ONE * n * m ≡ ONE * m * n + 0 = λ n m. omega (arith, mul_comm n m) in
       cc (by_parts (new a) (old a), div-mul-add (ONE * old a) (new a) 0 (n_len.some a low));
-  below = λ a forward k low less.
-      let by_parts : (n m : ℕ) → k * m < n * m → ONE * k * m < ONE * m * n = λ n m e. omega (arith, mul_comm n m) in
-      div_less _ _ _ (n_len.some a low) (by_parts (new a) (old a) (times_less k _ _ less (o_len.some a low)));
+  below = search (rules, mul_comm, div_less);
   edges = even_edge l old new o_len n_len;
   parts = λ a k low less. mod-lt (k * old a) (n_len.some a low);
 }
 
 pub shared_law : SharedLaw
-shared_law l old new shares o_len n_len few = search (rules, begins_at, ends_at, below_end, step_is)
+shared_law l old new shares o_len n_len few = search (rules, begins_at, below_end, step_is)
 
 -- How many numbers below a bound pass a test, compared by one-to-one maps.
 
@@ -269,12 +239,13 @@ passing_le p q zero n to once = omega arith
 passing_le p q (suc m) n to once = elim (cases_Bool (p m)) [
   | inl on ↦
       let (u, u_low, u_on) = to m last on in
-      let apart : (i : ℕ) (l : i < m) (s : p i ≡ true) → (to i (up i l) s).0 ≢ (to m last on).0 =
-      λ i l s e. let same = once i m (up i l) s last on e in omega arith in
-      let less = passing_le p (but q (to m last on).0) m n (λ i l s. let k = to i (up i l) s in
-      (k.0, k.1, but_same q (apart i l s) ∙ k.2)) (λ i j a b c d e. once i j (up i a) b (up j c) d e) in
-      let one : one_if (p m) ≡ 1 = ap one_if on in
-      omega (arith, less, one, passing_but q n (to m last on).0 u_low u_on)
+      let apart : (i : ℕ) (l : i < m) (s : p i ≡ true) → (to i (up i l) s).0 ≢ (to m last on).0 = search rules in
+      search (
+        rules,
+        passing_but,
+        passing_le p (but q (to m last on).0) m n (λ i l s. let k = to i (up i l) s in
+            (k.0, k.1, but_same q (apart i l s) ∙ k.2)) (λ i j a b c d e. once i j (up i a) b (up j c) d e),
+      )
   | inr off ↦
       search (rules, passing_le p q m n (λ i l s. to i (up i l) s) (λ i j a b c d e. once i j (up i a) b (up j c) d e))
 ]
@@ -298,8 +269,7 @@ pub record AreNumbers {X : Type 0} (P : X → Type 0) (a : X → ℕ) (p : ℕ �
 pub numbers_le : {X : Type 0} {P : X → Type 0} {a b : X → ℕ} {p q : ℕ → Bool} {m n : ℕ} → AreNumbers P a p m
     → AreNumbers P b q n → ((d e : X) → P d → P e → b d ≡ b e → a d ≡ a e) → passing p m ≤ passing q n
 numbers_le {b} {p} {q} {m} {n} r s tells = passing_le p q m n (λ k low on. let d = r.onto k low on in let e = s.each d.0
-    d.1 in (b d.0, e.0, e.1)) (λ k j low on less too same. let d = r.onto k low on in let e = r.onto j less too in
-    cc (tells d.0 e.0 d.1 e.1 same))
+    d.1 in (b d.0, e.0, e.1)) (search rules)
 
 -- A filter keeps what passes.
 pub filter_long : (p : ℕ → Bool) (n : ℕ) → length (filter p (range_with_len 0 n)) ≡ passing p n
