@@ -1,6 +1,6 @@
 -- The darts of a graph are darts: they come in pairs and begin at vertices.
 use Rattle.std.proofs.Common.{rules, ◌≡◌, ◌≢◌, ℕ, ◌+◌, ◌-◌, ◌*◌, ◌/◌, ◌%◌, eqb, refl, ◌∙◌, ap, arith, ◌<◌, ◌≤◌, Bool}
-use Rattle.std.proofs.Common.{true, not, cond, List, [], ◌∷◌, map, length, ℤ, pos, ◌+ℤ◌, ◌*ℤ◌, ◌≤ℤ◌, inl, inr}
+use Rattle.std.proofs.Common.{cond, List, [], ◌∷◌, map, length, ℤ, pos, ◌+ℤ◌, ◌*ℤ◌, ◌≤ℤ◌, inl, inr}
 use Rattle.std.proofs.lemmas.Bool.{cond-true, cond-false, eq-eqb, ne_eqb, cases_eq, cases_lt}
 use Rattle.std.proofs.lemmas.Int.{ints}
 use Rattle.def_matching.specs.Matching.{WeightedGraph, IsGraph, edge_at, ends_at, IsPerfect, matching_cost}
@@ -42,10 +42,6 @@ are_darts is = grind (arith, is.left, is.right)
 -- A test of two numbers, in either order.
 pub eqb_order : (a b : ℕ) → eqb a b ≡ eqb b a
 eqb_order a b = grind arith
-
--- One of two that are not both.
-one_of : (p q : Bool) → (p ≡ true → q ≡ true → ⊥) → ◌≡◌ {A = ℕ} (cond (cond p (not q) q) 1 0) (cond p 1 0 + cond q 1 0)
-one_of p q off = grind arith
 
 -- A number that counts just once along a list is the sum.
 once_sum : (s : ℕ → Bool) (z : ℤ) (es : List WEdge) → count (λ (e : WEdge). cond (crosses s e) 1 0) es ≡ 0

@@ -1,9 +1,9 @@
 -- An expansion keeps a forest valid: an inner set of weight 0 is opened.
-use Rattle.std.proofs.Common.{◌≡◌, ◌≢◌, ℕ, zero, suc, ◌+◌, ◌*◌, ◌-◌, ◌/◌, ◌%◌, ◌<◌, ◌≤◌, Bool, true, cond, eqb, Some}
+use Rattle.std.proofs.Common.{◌≡◌, ◌≢◌, ℕ, zero, suc, ◌+◌, ◌*◌, ◌-◌, ◌/◌, ◌%◌, ◌<◌, ◌≤◌, true, cond, eqb, Some}
 use Rattle.std.proofs.Common.{◌⊎◌, refl, sym, ◌∙◌, ap, inl, inr, arith, rules}
 use Rattle.std.proofs.lemmas.Bool.{cases_eq, cases_lt, cond-true, cond-false, eq-eqb, ne_eqb}
 use Rattle.{std.proofs.Math.Nat.mul-le-mul_left, def_math.specs.Searches.least, qm_dual.proofs.Gathered.least_some}
-use Rattle.def_forest.specs.Forests.{Forest, IsTight, IsOutermost, bool_number, walk, ring_sum}
+use Rattle.def_forest.specs.Forests.{Forest, IsTight, IsOutermost, walk, ring_sum}
 use Rattle.def_forest.specs.{Valid.AreOutermost, Valid.IsInner, Valid.IsJoint, Valid.IsMate, Valid.IsNested}
 use Rattle.def_forest.specs.{Valid.IsRing, Valid.IsTree, Valid.IsValid, Darts.Darts, Darts.AreDarts, Darts.far}
 use Rattle.def_forest.specs.{Ways.dart_or, Opened.Opening, Opened.IsOpening, Opened.IsOpened}
@@ -20,10 +20,6 @@ halves j = elim (cases_eq (j % 2) 0) [ inl e ↦ inl (j / 2, omega arith) | inr 
 pub ring_term : (next f : ℕ → ℕ) (front n k : ℕ) → k < n → f (walk next front k) ≤ ring_sum next f front n
 ring_term next f front zero k l = absurd (omega arith)
 ring_term next f front (suc n) k l = grind (arith, ring_term next f front n k)
-
--- A test that counts passes.
-pub number_true : (b : Bool) → 1 ≤ bool_number b → b ≡ true
-number_true b l = grind arith
 
 -- A set holds what its parts hold.
 pub holds_up : {g : Darts} {f : Forest} → IsNested g f → (p v : ℕ) → v < g.n → f.nest.up p ≢ p → f.holds p v ≡ true
@@ -84,10 +80,6 @@ module _ {g : Darts} {f : Forest} {r : ℕ} {new : Forest} {o : Opening} (opened
   part_has : (v : ℕ) → v < g.n → f.out v ≡ b → (f.nest.up (o.part v) ≡ b) × (o.part v ≢ b) × (o.part v < f.size)
   part_has v l e = let p = opening.part_of v l e in rw p.2 at (opening.parts p.0 p.1)
 
-  -- It is not the outermost blossom of any vertex before.
-  part_not_out : {v w : ℕ} → v < g.n → w < g.n → f.out v ≡ b → f.out w ≢ b → o.part v ≢ f.out w
-  part_not_out {v} {w} lv lw e ne same = search (rules, part_has)
-
   held_part : {u v : ℕ} → u < g.n → v < g.n → f.out u ≡ b → f.out v ≡ b → f.holds (o.part u) v
       ≡ eqb (o.part v) (o.part u)
   held_part {u} {v} lu lv eu ev = let p = opening.part_of u lu eu in rw p.2 at (opening.held v p.0 lv ev p.1)
@@ -117,12 +109,9 @@ module _ {g : Darts} {f : Forest} {r : ℕ} {new : Forest} {o : Opening} (opened
       | inl eu ↦ rw (out_in u lu eu, is.holds (o.part u) v (part_has u lu eu).1 lv) (elim (cases_eq (f.out v) b) [
         | inl ev ↦ rw (out_in v lv ev) (held_part lu lv eu ev)
         | inr nv ↦ (let own = held_part lu lu eu eu in
-            let apart = part_not_out lu lv eu nv in
-            let both = valid.outermost.together (o.part u) u v lu lv in
-            rw (out_old v lv nv) (grind arith))
+            search (rules, out_old))
       ])
       | inr nu ↦ rw (out_old u lu nu, is.holds (f.out u) v nu lv) (let was = valid.outermost.held u v lu lv in
-          let apart = λ (ev : f.out v ≡ b). part_not_out lv lu ev nu in
           grind (arith, is.out v lv))
     ];
     tops = λ v l. out_cases (λ x. new.nest.up x ≡ x) v l (λ e. is.parts_out (o.part v) (part_has v l e).0)
@@ -140,10 +129,8 @@ module _ {g : Darts} {f : Forest} {r : ℕ} {new : Forest} {o : Opening} (opened
 
   -- The ring of another set stays.
   ring_old : {c : ℕ} → c ≢ b → IsRing g f c → IsRing g new c
-  ring_old {c} ne ring = same_ring are changes ne ring
-      (λ p up inner. search (rules, other_not_b))
-      (λ p up inner. (let other = λ (free : f.nest.up p ≢ b). (is.others p free).up in
-      grind (arith, cases_eq (f.nest.up p) b, is.parts_out p)))
+  ring_old {c} ne ring = same_ring are changes ne ring (λ p up inner. search (rules, other_not_b))
+      (λ p up inner. (grind (arith, cases_eq (f.nest.up p) b, is.parts_out p)))
 
   -- A joint beside b leads from an outermost blossom to itself.
   joint_kept : (p : ℕ) → f.nest.up p ≢ p → f.nest.up p ≢ b → IsJoint g new p
@@ -171,7 +158,7 @@ module _ {g : Darts} {f : Forest} {r : ℕ} {new : Forest} {o : Opening} (opened
   new_nested = same_nested are changes valid.nested (λ some. absurd (some is.no_parts)) (λ v l none. is.holds_none v l)
       (λ c ne. ring_old ne) (λ p inner. elim (cases_eq (f.nest.up p) b) [
         | inl e ↦ absurd (inner (is.parts_out p e))
-        | inr ne ↦ (let kept = is.others p ne in let set = is.sets (f.nest.up p) ne in search rules)
+        | inr ne ↦ (search rules)
       ]) (λ p inner. elim (cases_eq (f.nest.up p) b) [
         | inl e ↦ absurd (inner (is.parts_out p e))
         | inr ne ↦ joint_kept p (was p inner ne) ne
@@ -248,10 +235,8 @@ module _ {g : Darts} {f : Forest} {r : ℕ} {new : Forest} {o : Opening} (opened
   pair_at i l =
       let lt : 2 * i + 1 < 2 * o.half = omega arith in
       let begin = begins (2 * i + 1) lt in
-      let back = back_begins (2 * i + 1) lt in
       let tight = same_tight (opening.tight (2 * i + 1) lt) in let twin = tight_twin are tight in
       let end = ends (2 * i + 1) (2 * i + 2) lt (omega arith) in
-      let differ = opening.distinct (2 * i + 1) (2 * i + 2) (omega arith) (omega arith) in
       grind (arith, is.odd_mate i l, is.even_mate i l, are.twin_twin (o.e (2 * i + 1)))
 
   -- The mates of a part, by its place.
@@ -259,8 +244,7 @@ module _ {g : Darts} {f : Forest} {r : ℕ} {new : Forest} {o : Opening} (opened
   mate_at j l d mate = elim (halves j) [
     | inl w ↦ elim (cases_eq w.0 0) [
       | inl z ↦ (let at : j ≡ 0 = omega (arith, w.1) in
-          let same : d ≡ o.m = cc is.first_mate in
-          let pair = b_pair in rw (at, same) (search (rules, same_tight, beyond_out, beyond_free, beyond_mate, m_at)))
+          search (rules, b_pair, same_tight, beyond_mate, m_at))
       | inr nz ↦ (let i = w.0 - 1 in
           let at : j ≡ 2 * i + 2 = omega (arith, w.1) in
           let same : d ≡ g.twin (o.e (2 * i + 1)) = cc (is.even_mate i (omega arith)) in
@@ -271,12 +255,8 @@ module _ {g : Darts} {f : Forest} {r : ℕ} {new : Forest} {o : Opening} (opened
         rw (w.1, same) (pair_at w.0 low).0)
   ]
 
-  -- Where a dart leads to b, its twin is the dart that matches b.
-  twin_is : {c d : ℕ} → IsMate g f c d → beyond d ≡ b → g.twin d ≡ o.m
-  twin_is {d} pair e = search (rules, valid.matched)
-
   twin_at : {c d : ℕ} → IsMate g f c d → beyond d ≡ b → new.out (far g d) ≡ o.q 0
-  twin_at pair e = ap (λ x. new.out (g.near x)) (twin_is pair e) ∙ m_at
+  twin_at pair e = ap (λ x. new.out (g.near x)) (search (rules, valid.matched)) ∙ m_at
 
   -- The links of the parts that become inner.
   record Hangs (i d : ℕ) : Type 0 where
@@ -303,8 +283,7 @@ module _ {g : Darts} {f : Forest} {r : ℕ} {new : Forest} {o : Opening} (opened
         let old = b_inner in let tight = same_tight old.tight in
         let here = out_in (g.near (f.link b)) (are.near_low (f.link b) old.tight.low) in
         let label = beyond_label old.tight nb in
-        let deep = enough i l in let far_deep = beyond_depth old.tight nb in
-        rw (ap (λ x. new.link (o.q (2 * x))) at ∙ is.last_link) (rw at (grind arith)))
+        let deep = enough i l in search (rules, beyond_depth))
   ]
 
   inner_part : (i : ℕ) → i ≤ o.turns → IsInner g new depths (o.q (2 * i))
@@ -329,25 +308,16 @@ module _ {g : Darts} {f : Forest} {r : ℕ} {new : Forest} {o : Opening} (opened
       let up = outer_not (beyond (f.link c)) old.above in
       let down = (valid.matched c old.dart old.mate).tight in
       let child = outer_not (beyond old.dart) old.child in
-      let own = depth_old c ne in
       let deep = deeper (tree.depth (beyond (f.link c))) (tree.depth c) old.nearer in
-      let nearer : depths (new.out (far g (new.link c))) < depths c =
-      rw link (omega (arith, beyond_depth old.tight up)) in
       let mate = (is.others c ne).mate in
-      let same : depths (new.out (far g old.dart)) ≡ depths c =
-      beyond_depth down child ∙ ap (λ x. room * x) old.same ∙ sym own in
-      let tight = same_tight old.tight in let here = near_old ne old.tight old.here in
-      let parent = beyond_label old.tight up in let child_label = beyond_label down child in
-      search rules
+      search (rules, beyond_depth, same_tight, near_old, beyond_label)
 
   -- A part is inner or outer by turns up to the last turn, and outside beyond it.
   part_order : (j : ℕ) → j ≤ 2 * o.half → IsInOrder g new r depths (o.q j)
   part_order j l = let mates = mate_at j l in elim (halves j) [
     | inl w ↦ elim (cases_lt o.turns w.0) [
       | inl past ↦ (let k = w.0 - 1 in
-          let at : j ≡ 2 * k + 2 = omega (arith, w.1) in
           let label = is.off j (omega (arith, w.1)) l in
-          let beside = is.off (2 * k + 1) (omega arith) (omega arith) in
           let back = back_begins (2 * k + 1) (omega arith) in
           let mate = is.even_mate k (omega arith) in
           search rules)
@@ -370,13 +340,11 @@ module _ {g : Darts} {f : Forest} {r : ℕ} {new : Forest} {o : Opening} (opened
   old_order c ne = let kept = is.others c ne in record {
     matched = λ d mate. (let pair = valid.matched c d (sym kept.mate ∙ mate) in
         let tight = same_tight pair.tight in let here = near_old ne pair.tight pair.here in
-        let at = twin_at pair in let away = beyond_out pair.tight in let partner = beyond_mate pair.tight in
-        grind (arith, cases_eq (beyond d) b, is.first_mate, twin_is pair, opening.parts 0 (omega arith)));
+        let at = twin_at pair in search (rules, beyond_mate));
     inner = λ l. inner_old ne (tree.inner c (sym kept.label ∙ l));
     outer = λ l. (let first = is.inner 0 (omega arith) in elim (tree.outer c (sym kept.label ∙ l)) [
       | inl e ↦ inl e
-      | inr w ↦ (let pair = valid.matched c w.0 w.1 in let at = twin_at pair in let label = beyond_label pair.tight in
-          inr (w.0, kept.mate ∙ w.1, grind (arith, cases_eq (beyond w.0) b)))
+      | inr w ↦ (let pair = valid.matched c w.0 w.1 in let at = twin_at pair in search (rules, beyond_label))
     ]);
     outside = λ d l mate. (let pair = valid.matched c d (sym kept.mate ∙ mate) in
         search (rules, beyond_label pair.tight, valid.outside c d));
@@ -384,7 +352,7 @@ module _ {g : Darts} {f : Forest} {r : ℕ} {new : Forest} {o : Opening} (opened
 
   in_order : (c : ℕ) → IsInOrder g new r depths c
   in_order c = elim (place c) [
-    | inl e ↦ (let label = is.gone.0 in let mate = is.gone.1 in search rules)
+    | inl e ↦ (search rules)
     | inr (inl p) ↦ rw p.2 at (part_order p.0 p.1)
     | inr (inr ne) ↦ old_order c ne
   ]
@@ -392,8 +360,6 @@ module _ {g : Darts} {f : Forest} {r : ℕ} {new : Forest} {o : Opening} (opened
   -- An inner set of weight 0 may be opened.
   pub opened_valid : IsValid g new (Some r)
   opened_valid =
-      let w = valid.outermost.named r (λ off. cc tree.root_outer) in
-      let r_old : f.nest.up r ≢ b =
-      λ up. outer_not r tree.root_outer (sym (rw w.2 at (valid.outermost.tops w.0 w.1)) ∙ up) in
+      let r_old : f.nest.up r ≢ b = search rules in
       tree_valid depths new_outermost new_nested (same_feasible are changes valid.feasible)
       ((is.others r r_old).label ∙ tree.root_outer) ((is.others r r_old).mate ∙ tree.root_free) in_order

@@ -2,14 +2,14 @@
 -- the ring that an edge between two outer blossoms closes is read off.
 use Rattle.std.proofs.Common.{rules, ◌≡◌, ◌≢◌, ℕ, zero, suc, ◌+◌, ◌-◌, ◌*◌, ◌/◌, ◌<◌, ◌≤◌, Bool, true, Some, ◌⊎◌, refl}
 use Rattle.std.proofs.Common.{sym, ◌∙◌, ap, subst, inl, inr, arith}
-use Rattle.std.proofs.lemmas.Bool.{cases_eq, cases_lt, cond-true, cond-false, eq-eqb, ne_eqb, lt-ltb, le-ltb}
+use Rattle.std.proofs.lemmas.Bool.{cases_eq, cases_lt, cond-true, cond-false, eq-eqb, lt-ltb, le-ltb}
 use Rattle.def_forest.specs.declared.kinds.Label.TheVariants.{Outer, Inner, Outside}
 use Rattle.def_forest.specs.{Darts.Darts, Darts.AreDarts, Darts.far, Forests.Forest, Forests.IsTight, Forests.walk}
 use Rattle.def_forest.specs.{Shrunk.IsCycle, Shrunk.IsClosedRow, Valid.IsValid, Valid.IsTree, Ways.dart_or}
 use Rattle.forest_laws.specs.Climbing.{rise_of, above_of, level_of, way_of, IsClimbing, ring_at, ring_dart}
 use Rattle.forest_laws.{specs.Walks.listed, proofs.Grows.far_twin, proofs.Grows.tight_twin, proofs.Grows.outer_named}
 use Rattle.forest_laws.proofs.Levels.{tree_cases, level_zero, root_level, on_way, way_step, way_depth, way_differs}
-use Rattle.forest_laws.proofs.Levels.{come_from, outer_even, outer_above}
+use Rattle.forest_laws.proofs.Levels.{come_from, outer_above}
 use Rattle.forest_laws.proofs.Walks.{walk_sum, listed_place, listed_off, listed_closed, listed_sum}
 
 -- The two climbers may change places.
@@ -117,19 +117,8 @@ module _ {g : Darts} {f : Forest} {r start top left right : ℕ} (fork : Fork g 
   -- The ring has an odd number of places.
   ring_half : (h : ℕ) × (1 ≤ h) × (left + right + 1 ≡ 2 * h + 1)
   ring_half =
-      let even : 2 * ((left + right) / 2) ≡ left + right = omega (
-        arith,
-        outer_even are valid tree a outer_a,
-        outer_even are valid tree c outer_c,
-        outer_even are valid tree top top_outer,
-        (on a left outer_a met.x_low).1,
-        (on c right outer_c met.y_low).1,
-        ap level met.x_is,
-        ap level met.y_is,
-      )
-      in
-      let some : left + right ≢ 0 = λ none. (let l0 : left ≡ 0 = omega arith in let r0 : right ≡ 0 = omega arith in
-      apart (ap (way a) (sym l0) ∙ sym met.x_is ∙ met.y_is ∙ ap (way c) r0)) in
+      let even : 2 * ((left + right) / 2) ≡ left + right = search (rules, top_outer, on) in
+      let some : left + right ≢ 0 = search rules in
       ((left + right) / 2, omega arith, omega arith)
 
   -- The two ways differ but for where they meet, and each goes past different places.
@@ -179,10 +168,6 @@ module _ {g : Darts} {f : Forest} {r start top left right : ℕ} (fork : Fork g 
   pub at_named : (k : ℕ) → k < left + right + 1 → f.label (at k) ≢ Outside
   at_named k l = (at_below k l).named
 
-  -- The places are different.
-  at_distinct : (i j : ℕ) → i < j → j < many → at i ≢ at j
-  at_distinct i j lij lj e = search (rules, left_differs, ways_differ, right_differs)
-
   -- The darts between them.
   abbrev dart : ℕ → ℕ
   dart = ring_dart g f a c left start
@@ -199,22 +184,19 @@ module _ {g : Darts} {f : Forest} {r start top left right : ℕ} (fork : Fork g 
 
   pub dart_right : {k : ℕ} (m : ℕ) → k ≡ left + 1 + m → dart k ≡ dart_or (rise_of f (way c m))
   dart_right {k} m e = let s : k - left - 1 ≡ m = omega arith in
-      cond-false _ _ _ (le-ltb k left (omega arith)) ∙ cond-false _ _ _ (ne_eqb k left (λ x. absurd (omega arith)))
-      ∙ ap (λ i. dart_or (rise_of f (way c i))) s
+      search rules
 
   abbrev Joins : (d x y : ℕ) → Type 0
   Joins d x y = IsTight g f d × (f.out (g.near d) ≡ x) × (f.out (far g d) ≡ y)
 
   ring_joins : (k : ℕ) → k < many → Joins (dart k) (at k) (at (suc k))
   ring_joins k l = elim (side k) [
-    | down zero e ↦ rw (dart_over {k = k} (omega arith))
-        (tight, sym (at_down k 0 (omega arith)), sym (at_right (suc k) 0 (omega arith)))
+    | down zero e ↦ search (rules, dart_over, at_down, at_right)
     | down (suc m) e ↦ (let step = way_step are valid tree a m (outer_named outer_a) (omega (arith, met.x_low)) in
         let twin = tight_twin are step.tight in let here = at_down k (suc m) e in
-        let next = at_down (suc k) m (omega arith) in
-        rw (dart_down k m e) (search (rules, far_twin)))
+        search (rules, at_down, dart_down, far_twin))
     | up m e ↦ (let step = way_step are valid tree c m (outer_named outer_c) (omega (arith, met.y_low)) in
-        let dart = dart_right m e in let here = at_right k m e in
+        let here = at_right k m e in
         let next = at_right (suc k) (suc m) (omega arith) in
         search rules)
   ]
@@ -243,9 +225,6 @@ module _ {g : Darts} {f : Forest} {r start top left right : ℕ} (fork : Fork g 
     joins x on = let w = marked_at x on in
         rw (← w.2, joints w.0 w.1, afters w.0 w.1) (ring_joins w.0 w.1)
 
-    walk_distinct : (i j : ℕ) → i < j → j < many → walk after top i ≢ walk after top j
-    walk_distinct i j lij lj e = search (rules, at_distinct, walks)
-
     pub closed_row : IsClosedRow g f after joint inside top (left + right + 1)
     closed_row = record {
       half = ring_half.0;
@@ -253,8 +232,9 @@ module _ {g : Darts} {f : Forest} {r start top left right : ℕ} (fork : Fork g 
       odd = ring_half.2;
       closed = closed;
       marked = listed_closed after many (omega arith) closed;
-      shared = λ v l. listed_sum after top many (f.out v) walk_distinct;
-      distinct = walk_distinct;
+      shared = λ v l. listed_sum after top many (f.out v)
+          (search (rules, left_differs, ways_differ, right_differs, walks));
+      distinct = search (rules, left_differs, ways_differ, right_differs, walks);
       all = λ x on. listed_place after top many x on;
       tight = λ x on. (joins x on).0;
       begins = λ x on. (joins x on).1;
@@ -280,12 +260,10 @@ module _ {g : Darts} {f : Forest} {r start top left right : ℕ} (fork : Fork g 
 
       mate_inside : x ≢ top → (k : ℕ) × (k < many) × (at k ≡ x) → inside (f.out (far g d)) ≡ true
       mate_inside not_top (k, l, e) = elim (side k) [
-        | down i s ↦ mate_on_way a left i outer_a met.x_low (λ i l. ap inside (sym (at_down (left - i) i
-            (omega (arith, l)))) ∙ at_marked (left - i) (omega arith)) (search (rules, cases_eq k 0, at_first))
-            (sym (at_down k i s) ∙ e)
-        | up m s ↦ mate_on_way c right m outer_c met.y_low
-            (λ i l. ap inside (sym (at_right (left + 1 + i) i refl)) ∙ at_marked (left + 1 + i) (omega (arith, l)))
-            (omega arith) (sym (at_right k m s) ∙ e)
+        | down i s ↦ mate_on_way a left i outer_a met.x_low (λ i l. ap inside (sym (at_down _ i (omega (arith, l))))
+            ∙ at_marked (left - i) (omega arith)) (search (rules, cases_eq k 0, at_first)) (sym (at_down k i s) ∙ e)
+        | up m s ↦ mate_on_way c _ m outer_c met.y_low (λ i l. ap inside (sym (at_right (left + 1 + i) i refl))
+            ∙ at_marked _ (omega (arith, l))) (omega arith) (sym (at_right k m s) ∙ e)
       ]
 
     marked_below : (x : ℕ) → inside x ≡ true → IsBelow x
@@ -299,10 +277,8 @@ module _ {g : Darts} {f : Forest} {r start top left right : ℕ} (fork : Fork g 
       in_tree = λ x on. (marked_below x on).named;
       above = λ x on. (marked_below x on).depth;
       mates = λ x d on not_top mate. mate_inside mate not_top (marked_at x on);
-      top_mate = λ d mate. listed_off after top many (f.out (far g d))
-          (λ k l e. (let up = outer_above are valid tree top d top_outer mate in
-          let same = ap level (sym (walks k (omega arith)) ∙ e ∙ up.0) in
-          omega (arith, up.1, (at_below k l).level)));
-      root_top = λ on. sym (level_zero are valid tree top top_named
+      top_mate = λ d mate. listed_off _ _ many _ (λ k l e. (let up = outer_above are valid tree _ d top_outer mate in
+          search (rules, walks, at_below)));
+      root_top = λ on. sym (level_zero are valid tree _ top_named
           (omega (arith, root_level are valid tree, (marked_below r on).level)));
     }

@@ -1,7 +1,7 @@
 -- A function with another value at one place; cases on labels; tests as terms of sums.
 use Rattle.std.proofs.Common.{◌∙◌, sym, ◌≡◌, ◌≢◌, ℕ, Bool, true, false, not, cond, eqb, Option, Some, None, ℤ, pos}
 use Rattle.std.proofs.Common.{◌+ℤ◌, ◌⊎◌, refl, inl, inr, arith, ◌<◌, ap, suc, ◌≤◌, rules}
-use Rattle.std.proofs.lemmas.{Bool.cond-true, Bool.cond-false, Bool.eq-eqb, Bool.ne_eqb, Bool.cases_eq, Int.ints}
+use Rattle.std.proofs.lemmas.{Bool.cond-true, Bool.cond-false, Bool.eq-eqb, Bool.ne_eqb, Int.ints}
 use Rattle.def_forest.specs.Forests.{set_at, Forest, weight_between, splits, IsTight, IsOutermost}
 use Rattle.def_forest.specs.declared.kinds.Label.TheVariants.{Outer, Inner, Outside}
 use Rattle.def_forest.specs.Valid.{AreOutermost, IsFeasible, IsMatched, IsNested, IsTree, IsValid, KeepsOutside}
@@ -54,13 +54,9 @@ by_same p q x e = grind (arith, ints)
 pub by_none : (p : Bool) → cond p (pos 0) (pos 0) ≡ pos 0
 by_none p = grind arith
 
--- Exactly one of two, in either order.
-pub by_order : (p q : Bool) → cond p (not q) q ≡ cond q (not p) p
-by_order p q = grind arith
-
 -- True is not false.
 pub true_false : {b : Bool} → b ≡ true → b ≡ false → ⊥
-true_false on off = let h : true ≡ false = sym on ∙ off in cc
+true_false on off = cc
 
 -- How a shift changes loads, and that a load across two outermost blossoms is a sum of two potentials.
 
@@ -71,9 +67,7 @@ load_order f u v = search rules
 -- A load with more weight.
 pub load_sum : (f : Forest) (more : ℕ → ℤ) (u v : ℕ) → weight_between (record f { weight = λ b. f.weight b +ℤ more b })
     u v ≡ weight_between f u v +ℤ total_below (λ b. cond (splits (f.holds b) u v) (more b) (pos 0)) f.size
-load_sum f more u v = total_below_same _ _ f.size (λ b l. grind (arith, ints))
-    ∙ total_below_sum (λ b. cond (splits (f.holds b) u v) (f.weight b) (pos 0))
-    (λ b. cond (splits (f.holds b) u v) (more b) (pos 0)) f.size
+load_sum f more u v = total_below_same _ _ f.size (λ b l. grind (arith, ints)) ∙ total_below_sum _ _ f.size
 
 -- The sum of the weights of the blossoms around a vertex.
 abbrev pub potential : (f : Forest) (v : ℕ) → ℤ
@@ -95,10 +89,7 @@ module _ {n : ℕ} {f : Forest} (top : AreOutermost n f) where
   -- The load across two outermost blossoms is the sum of the potentials of both ends.
   pub load_across : (u v : ℕ) → u < n → v < n → f.out u ≢ f.out v → weight_between f u v
       ≡ potential f u +ℤ potential f v
-  load_across u v lu lv ne = total_below_same _ _ f.size (λ b l. by_two (f.holds b u) (f.holds b v) (f.weight b)
-      (λ p q. ne (top.together b u v lu lv p q)))
-      ∙ total_below_sum (λ b. cond (f.holds b u) (f.weight b) (pos 0)) (λ b. cond (f.holds b v) (f.weight b) (pos 0))
-      f.size
+  load_across u v lu lv ne = total_below_same _ _ f.size (search rules) ∙ total_below_sum _ _ f.size
 
   -- A shift changes the potential of a vertex as it changes the weight of its outermost blossom.
   pub potential_shifted : (t : ℤ) (v : ℕ) → v < n → potential (shifted f t) v
@@ -108,12 +99,8 @@ module _ {n : ℕ} {f : Forest} (top : AreOutermost n f) where
       let change = λ (b : ℕ). cond (f.holds b v) (weight_change (f.label b) t) (pos 0) in
       let both = total_below_same (λ b. cond (f.holds b v) (f.weight b +ℤ weight_change (f.label b) t) (pos 0))
       (λ b. around b +ℤ change b) f.size (λ b lb. grind (arith, ints)) in
-      let own = total_below_one change f.size (f.out v) (top.out_low v l) (λ b lb ne.
-      grind (arith, named_holds b v l)) in
-      let here : change (f.out v) ≡ weight_change (f.label (f.out v)) t =
-      cond-true _ _ _ (top.held v v l l ∙ eq-eqb (f.out v) (f.out v) refl) in
-      let sum = total_below_sum around change f.size in
-      omega (arith, ints)
+      let own = total_below_one change f.size (f.out v) (top.out_low v l) (search rules) in
+      search (rules, total_below_sum)
 
 -- A shift changes the load across two outermost blossoms by what it changes of both.
 pub load_apart : {n : ℕ} {f : Forest} → AreOutermost n f → (t : ℤ) (u v : ℕ) → u < n → v < n → f.out u ≢ f.out v
@@ -215,15 +202,13 @@ module _ {g : Darts} (are : AreDarts g) {f : Forest} (valid : IsValid g f None) 
     (outermost : IsOutermost g.n f b) (free : f.mate b ≡ None) where
   -- Where no tree stands, a blossom that is not matched may become the root.
   pub rooted_valid : IsValid g (rooted f b) (Some b)
-  rooted_valid = tree_valid (λ x. 0) (same_outermost valid.outermost (λ x some. elim (cases_eq x b) [
-    | inl e ↦ rw e outermost
-    | inr ne ↦ absurd (some (set_there f.label b x Outer ne ∙ valid.no_tree refl x))
-  ])) (same_nested valid.nested) (same_feasible valid.feasible) (set_here f.label b Outer) free (λ x. record {
-    matched = own_matched valid.matched x;
-    inner = λ l. absurd (grind (arith, valid.no_tree refl x));
-    outer = λ l. inl (grind (arith, valid.no_tree refl x));
-    outside = λ d _ mate. grind (arith, (valid.matched x d mate).back, valid.no_tree refl (f.out (far g d)));
-  })
+  rooted_valid = tree_valid (λ x. 0) (search rules) (same_nested valid.nested) (same_feasible valid.feasible)
+      (set_here f.label b Outer) free (λ x. record {
+        matched = own_matched valid.matched x;
+        inner = λ l. absurd (grind (arith, valid.no_tree refl x));
+        outer = λ l. inl (grind (arith, valid.no_tree refl x));
+        outside = λ d _ mate. grind (arith, (valid.matched x d mate).back, valid.no_tree refl (f.out (far g d)));
+      })
 
 module _ (g : Darts) (are : AreDarts g) (f : Forest) (r : ℕ) (valid : IsValid g f (Some r)) (d m : ℕ)
     (reach : Reaches g f d) (mate : f.mate (f.out (far g d)) ≡ Some m) where
@@ -249,17 +234,14 @@ module _ (g : Darts) (are : AreDarts g) (f : Forest) (r : ℕ) (valid : IsValid 
     renewed_outer = set_here (set_at table inn at_inn) outer at_outer
 
     renewed_inner : renewed inn ≡ at_inn
-    renewed_inner = set_there (set_at table inn at_inn) outer inn at_outer (λ e. pair.other (sym e))
-        ∙ set_here table inn at_inn
+    renewed_inner = set_there (set_at table _ _) _ _ _ (λ e. pair.other (sym e)) ∙ set_here table _ _
 
     renewed_other : (x : ℕ) → x ≢ inn → x ≢ outer → renewed x ≡ table x
     renewed_other x ni nu = set_there (set_at table inn at_inn) outer x at_outer nu ∙ set_there table inn x at_inn ni
 
     -- A blossom with a place in the tree already is none of the two.
     renewed_named : (x : ℕ) → f.label x ≢ Outside → renewed x ≡ table x
-    renewed_named x named =
-        renewed_other x (λ e. named (ap f.label e ∙ reach.off))
-        (λ e. named (ap f.label e ∙ valid.outside inn m reach.off mate))
+    renewed_named x named = renewed_other x (λ e. named (ap f.label e ∙ reach.off)) (search rules)
 
   abbrev labels : ℕ → Label
   labels = renewed f.label Inner Outer
@@ -273,10 +255,7 @@ module _ (g : Darts) (are : AreDarts g) (f : Forest) (r : ℕ) (valid : IsValid 
     is_other : x ≢ inn → x ≢ outer → labels x ≡ f.label x → Place x
 
   place : (x : ℕ) → Place x
-  place x =
-      let at_outer = renewed_outer f.label Inner Outer in
-      let at_inner = renewed_inner f.label Inner Outer in
-      search (rules, cases_eq x outer, cases_eq x inn, at_outer, at_inner, renewed_other f.label Inner Outer x)
+  place x = search rules
 
   module _ (tree : IsTree g f r) where
     abbrev deeper : ℕ
@@ -338,6 +317,6 @@ module _ (g : Darts) (are : AreDarts g) (f : Forest) (r : ℕ) (valid : IsValid 
       let tree = valid.tree r refl in
       let up = far_low g are m pair.tight.low in
       let down = far_low g are d reach.tight.low in
-      tree_valid (depths tree) (same_outermost valid.outermost (λ x is. (let here = place x in
-      let old = valid.outermost.named x in search rules))) (same_nested valid.nested) (same_feasible valid.feasible)
-      (label_named (outer_named refl) tree.root_outer) tree.root_free (in_order tree)
+      tree_valid (depths tree) (same_outermost valid.outermost
+      (λ x is. (let old = valid.outermost.named x in search rules))) (same_nested valid.nested)
+      (same_feasible valid.feasible) (label_named (outer_named refl) tree.root_outer) tree.root_free (in_order tree)

@@ -1,7 +1,6 @@
 -- Climbing the tree one blossom at a time: each step brings one a level nearer to the root, and so climbing ends.
 use Rattle.std.proofs.Common.{rules, ◌≡◌, ◌≢◌, ℕ, zero, suc, ◌+◌, ◌-◌, ◌*◌, ◌<◌, ◌≤◌, Some, None, ◌⊎◌, sym, ◌∙◌, ap}
 use Rattle.std.proofs.Common.{inl, inr, arith}
-use Rattle.std.proofs.lemmas.Bool.{lt-ltb, le-ltb}
 use Rattle.sum_laws.proofs.{Sums.count_below_le, Sums.count_below_lt, Sums.count_below_ones, Tests.once_at_most}
 use Rattle.def_forest.specs.declared.kinds.Label.TheVariants.{Outer, Inner, Outside}
 use Rattle.def_forest.specs.{Darts.Darts, Darts.AreDarts, Darts.far, Forests.Forest, Forests.IsTight}
@@ -35,8 +34,7 @@ module _ {g : Darts} (are : AreDarts g) {f : Forest} {r : ℕ} (valid : IsValid 
     inner_back = search (rules, inner_is)
 
     inner_depth : tree.depth (inner_of g f a) ≡ tree.depth a
-    inner_depth =
-        cc (inner_tree.same, inner_tree.mate, inner_back, (valid.matched a d mate).here, are.twin_twin d)
+    inner_depth = cc (inner_tree.same, inner_tree.mate, inner_back, (valid.matched a d mate).here, are.twin_twin d)
 
   -- How many blossoms are nearer to the root.
   abbrev nearer_to : ℕ → ℕ → ℕ
@@ -50,9 +48,7 @@ module _ {g : Darts} (are : AreDarts g) {f : Forest} {r : ℕ} (valid : IsValid 
       let p = parent_of g f a in
       let is = inner_tree a d outer mate in
       let less : tree.depth p < tree.depth a = omega (arith, is.nearer, inner_depth a d outer mate) in
-      count_below_lt (nearer_to p) (nearer_to a) f.size p (named_low are valid (outer_named is.above))
-      (λ b lb. less_more (tree.depth b) less)
-      (rw (le-ltb (tree.depth p) (tree.depth p) (omega arith), lt-ltb (tree.depth p) (tree.depth a) less) (omega arith))
+      count_below_lt _ _ _ p (named_low are valid (outer_named is.above)) (λ b lb. less_more _ less) (search rules)
 
   -- More steps than there are blossoms change nothing.
   enough : (k a : ℕ) → f.label a ≡ Outer → nearer a < k → steps g f (suc k) a ≡ steps g f k a
@@ -67,8 +63,7 @@ module _ {g : Darts} (are : AreDarts g) {f : Forest} {r : ℕ} (valid : IsValid 
   pub fewer_steps : (a d : ℕ) → f.label a ≡ Outer → f.mate a ≡ Some d → steps g f (f.size + 1) a
       ≡ suc (steps g f (f.size + 1) (parent_of g f a))
   fewer_steps a d outer mate =
-      let few = count_below_le (nearer_to a) (λ b. 1) f.size
-      (λ b l. once_at_most (nat_lt (tree.depth b) (tree.depth a))) in
+      let few = count_below_le _ _ f.size (λ b l. once_at_most (nat_lt (tree.depth b) (tree.depth a))) in
       let more = enough f.size (parent_of g f a) (inner_tree a d outer mate).above
       (omega (arith, nearer_falls a d outer mate, count_below_ones f.size)) in
       let one : f.size + 1 ≡ suc f.size = omega arith in
@@ -104,18 +99,7 @@ module _ {g : Darts} (are : AreDarts g) {f : Forest} {r : ℕ} (valid : IsValid 
     pub depth : tree.depth (above b) ≤ tree.depth b
 
   step_outer : (b d : ℕ) → f.label b ≡ Outer → f.mate b ≡ Some d → IsStep b d
-  step_outer b d outer mate =
-      let there = above_is b d ((at_outer b outer).0 ∙ mate) in
-      let up : above b ≡ inner_of g f b = there ∙ sym (inner_is b d outer mate) in
-      let label = inner_label b d outer mate in
-      let pair = valid.matched b d mate in
-      let back : inner_of g f (inner_of g f b) ≡ b = ap (λ o. f.out (far g (dart_or o))) (inner_back b d outer mate)
-      ∙ ap f.out (far_twin are d) ∙ pair.here in
-      let rise = at_outer b outer in
-      let fewer = fewer_steps b d outer mate in
-      let lower = at_inner (inner_of g f b) label in
-      let depth = inner_depth b d outer mate in
-      grind arith
+  step_outer b d outer mate = let pair = valid.matched b d mate in search (rules, far_twin)
 
   step_inner : (b : ℕ) → f.label b ≡ Inner → IsStep b (f.link b)
   step_inner b label =
@@ -123,15 +107,8 @@ module _ {g : Darts} (are : AreDarts g) {f : Forest} {r : ℕ} (valid : IsValid 
       let pair = valid.matched b is.dart is.mate in
       let child : inner_of g f b ≡ f.out (far g is.dart) = ap (λ o. f.out (far g (dart_or o))) is.mate in
       let mate = ap f.mate child ∙ pair.back in
-      let back : inner_of g f (inner_of g f b) ≡ b =
-      ap (λ o. f.out (far g (dart_or o))) mate ∙ ap f.out (far_twin are is.dart) ∙ pair.here in
-      let up = above_is b (f.link b) (at_inner b label).0 in
-      let parent : parent_of g f (inner_of g f b) ≡ above b = ap (λ x. f.out (far g (f.link x))) back ∙ sym up in
-      let outer : f.label (above b) ≡ Outer = ap f.label up ∙ is.above in
       let fewer = fewer_steps (inner_of g f b) (g.twin is.dart) (ap f.label child ∙ is.child) mate in
-      let lower = at_inner b label in
-      let higher = at_outer (above b) outer in
-      grind arith
+      search rules
 
   -- A step up from a blossom of the tree.
   pub step_up : (b d : ℕ) → f.label b ≢ Outside → rise_of f b ≡ Some d → IsStep b d
@@ -191,10 +168,6 @@ module _ {g : Darts} (are : AreDarts g) {f : Forest} {r : ℕ} (valid : IsValid 
         let pair = valid.matched b d.0 (sym (at_outer b outer).0 ∙ d.1) in
         cc (above_is b d.0 d.1, mate, pair.back, far_twin are d.0, pair.here))
   ]
-
-  -- Levels of outer blossoms are even.
-  pub outer_even : (b : ℕ) → f.label b ≡ Outer → (k : ℕ) × (level b ≡ 2 * k)
-  outer_even b outer = (steps g f (f.size + 1) b, (at_outer b outer).1)
 
   -- The mate of an outer blossom is where one comes to.
   pub outer_above : (b d : ℕ) → f.label b ≡ Outer → f.mate b ≡ Some d → (f.out (far g d) ≡ above b)

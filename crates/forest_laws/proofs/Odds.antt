@@ -38,15 +38,12 @@ module _ {g : Darts} (are : AreDarts g) {f : Forest} (nested : IsNested g f) whe
   -- A set has the vertices of its parts.
   set_sum : {b : ℕ} → IsRing g f b → blossom_size g.n f b ≡ ring_sum f.nest.after (blossom_size g.n f) (f.nest.head b)
       (f.nest.parts b)
-  set_sum {b} ring = count_below_same (λ v. bool_number (f.holds b v))
-      (λ v. ring_sum f.nest.after (λ p. bool_number (f.holds p v)) (f.nest.head b) (f.nest.parts b)) g.n ring.shared
-      ∙ counts_exchanged f.nest.after (λ p v. bool_number (f.holds p v)) (f.nest.head b) g.n (f.nest.parts b)
+  set_sum {b} ring = count_below_same _ _ _ ring.shared ∙ counts_exchanged _ (λ p v. bool_number (f.holds p v)) _ _ _
 
   odd_below : (fuel b : ℕ) → f.nest.rank b < fuel → IsBlossom g f b → blossom_size g.n f b % 2 ≡ 1
   odd_below zero b l used = absurd (omega arith)
   odd_below (suc fuel) b l (inl low) =
-      let one = count_below_one (λ v. bool_number (f.holds b v)) g.n b low (λ k lk ne. ap bool_number
-      (nested.alone b k low lk ∙ ne_eqb b k (λ e. ne (sym e)))) in
+      let one = count_below_one (λ v. bool_number (f.holds b v)) g.n b low (search rules) in
       omega (arith, ap bool_number (nested.alone b b low low ∙ eq-eqb b b refl))
   odd_below (suc fuel) b l (inr (high, live)) =
       let ring = nested.rings b high live in
@@ -78,8 +75,7 @@ counts_swapped f m (suc n) =
     omega (arith, count_below_sum (λ j. count_below (λ i. f i j) n) (f n) m)
 
 one_at : (a m : ℕ) → a < m → count_below (λ k. bool_number (eqb k a)) m ≡ 1
-one_at a m l = count_below_one (λ k. bool_number (eqb k a)) m a l (λ k lk ne. ap bool_number (ne_eqb k a ne))
-    ∙ ap bool_number (eq-eqb a a refl)
+one_at a m l = count_below_one _ m a l (λ k lk ne. ap bool_number (ne_eqb k a ne)) ∙ ap bool_number (eq-eqb a a refl)
 
 -- Three different places.
 abbrev three : (at : ℕ → ℕ) → ℕ → ℕ
@@ -104,15 +100,10 @@ three_low less more at differ each low p =
 count_low : (n m : ℕ) → n ≤ m → count_below (λ p. bool_number (nat_lt p n)) m ≡ n
 count_low n zero l = omega arith
 count_low n (suc m) l = elim (cases_lt m n) [
-  | inl h ↦ (let all = count_below_same (λ p. bool_number (nat_lt p n)) (λ p. 1) m
-      (λ k lk. ap bool_number (lt-ltb k n (omega arith))) in
+  | inl h ↦ (let all = count_below_same _ _ m (λ k lk. ap bool_number (lt-ltb k n (omega arith))) in
       rw (lt-ltb m n h) (omega (arith, count_below_ones m)))
   | inr h ↦ rw (le-ltb m n h) (omega (arith, count_low n m h))
 ]
-
--- A number is that of a set in use where it is that of a set, and has parts.
-pub live_low : {n : ℕ} (parts : ℕ → ℕ) {b : ℕ} → b < n → live_at n parts b ≡ 0
-live_low {n} parts {b} l = rw (lt-ltb b n l)
 
 pub live_none : {n : ℕ} (parts : ℕ → ℕ) {b : ℕ} → n ≤ b → parts b ≡ 0 → live_at n parts b ≡ 0
 live_none {n} parts {b} h e = rw (le-ltb b n h, eq-eqb (parts b) 0 e)
@@ -134,9 +125,6 @@ module _ (g : Darts) (are : AreDarts g) (f : Forest) (nested : IsNested g f) (ve
   is_part : {p b : ℕ} → f.nest.up p ≡ b → p ≢ b → part p b ≡ 1
   is_part {p} {b} e ne = rw (eq-eqb (f.nest.up p) b e, ne_eqb p b ne)
 
-  is_top : {p : ℕ} → f.nest.up p ≡ p → inner p ≡ 0
-  is_top {p} e = rw (eq-eqb (f.nest.up p) p e)
-
   is_inner : {p : ℕ} → f.nest.up p ≢ p → inner p ≡ 1
   is_inner {p} ne = rw (ne_eqb (f.nest.up p) p ne)
 
@@ -148,26 +136,21 @@ module _ (g : Darts) (are : AreDarts g) (f : Forest) (nested : IsNested g f) (ve
       ) in
       let at = walk f.nest.after (f.nest.head b) in
       let below = count_below_le (three at) (λ p. part p b) f.size (λ p l. (let low = three_low (λ x. 0)
-      (λ x. part x b) at (λ i j lij lj. ring.distinct i j lij (omega (arith, ring.odd, ring.some))) (λ k l. one k)
-      (λ x. omega arith) p in omega arith)) in
+      (λ x. part x b) at (search rules) (λ k l. one k) (λ x. omega arith) p in omega arith)) in
       omega (arith, three_count at f.size (λ k l. ring.below k))
 
   one_set : (p : ℕ) → count_below (part p) f.size ≤ inner p
   one_set p = elim (cases_eq (f.nest.up p) p) [
-    | inl top ↦ omega (arith, count_below_none (part p) f.size (λ b l. off b (λ up self. self (sym top ∙ up))))
+    | inl top ↦ omega (arith, count_below_none _ f.size (λ b l. off b (λ up self. self (sym top ∙ up))))
     | inr ne ↦ elim (cases_lt (f.nest.up p) f.size) [
-      | inl l ↦ (let one = count_below_one (part p) f.size (f.nest.up p) l
-          (λ b lb nb. off b (λ up self. nb (sym up))) in
+      | inl l ↦ (let one = count_below_one _ _ _ l (λ b lb nb. off b (λ up self. nb (sym up))) in
           omega (arith, is_inner ne, is_part refl (λ e. ne (sym e))))
-      | inr h ↦ omega (arith, count_below_none (part p) f.size (λ b l. off b (λ up self. absurd (omega (arith, up)))))
+      | inr h ↦ omega (arith, count_below_none _ f.size (λ b l. off b (λ up self. absurd (omega (arith, up)))))
     ]
   ]
     where
       off : (b : ℕ) → (f.nest.up p ≡ b → p ≢ b → ⊥) → part p b ≡ 0
       off b none = grind arith
-
-  is_used : (p : ℕ) → IsBlossom g f p → used p ≡ 1
-  is_used p in_use = grind arith
 
   -- What is in use, with so many outermost blossoms marked that are no parts: three times the sets are few.
   sets_beside : (tops : ℕ → ℕ) → ((p : ℕ) → p < f.size → inner p + tops p ≤ used p)
@@ -195,11 +178,7 @@ module _ (g : Darts) (are : AreDarts g) (f : Forest) (nested : IsNested g f) (ve
   pub few_sets : AreOutermost g.n f → 0 < g.n → 2 * sets_of g.n f < g.n
   few_sets outermost some =
       let top = f.out 0 in
-      let top_used = holder_used are nested some (outermost.held 0 0 some some ∙ eq-eqb top top refl) in
-      let at_top = is_top (outermost.tops 0 some) in
-      let used_top = is_used top top_used in
-      let few = sets_beside (λ p. bool_number (eqb p top))
-      (λ p l. search (rules, cases_eq p top, ne_eqb p top, inner_low p, at_top, used_top)) in
+      let few = sets_beside (λ p. bool_number (eqb p top)) (search (rules, inner_low)) in
       omega (arith, one_at top f.size (outermost.out_low 0 some))
 
   -- Where three outermost blossoms are in use, there is room for a set more.
@@ -207,6 +186,5 @@ module _ (g : Darts) (are : AreDarts g) (f : Forest) (nested : IsNested g f) (ve
       → ((k : ℕ) → k < 3 → f.nest.up (at k) ≡ at k) → ((k : ℕ) → k < 3 → IsBlossom g f (at k))
       → 2 * count_below (live_at g.n f.nest.parts) f.size + 3 ≤ g.n
   sets_few at low differ tops uses =
-      let few = sets_beside (three at) (λ p l. three_low inner used at differ
-      (λ k lk. omega (arith, is_top (tops k lk), is_used (at k) (uses k lk))) inner_low p) in
+      let few = sets_beside (three at) (λ p l. three_low inner used at differ (search rules) inner_low p) in
       omega (arith, three_count at f.size low)

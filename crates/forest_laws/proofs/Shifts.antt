@@ -4,7 +4,7 @@ use Rattle.std.proofs.Common.{inr, arith, Bool, true, eqb, Option, Some, ◌+ℤ
 use Rattle.std.proofs.lemmas.{Bool.cases_eq, Bool.cond-true, Bool.cond-false, Bool.eq-eqb, Bool.ne_eqb, Int.ints}
 use Rattle.sum_laws.proofs.Sums.{total_below_same, total_below_sum, total_below_minus, total_below_none}
 use Rattle.sum_laws.proofs.Sums.{total_below_one}
-use Rattle.def_forest.specs.Forests.{Forest, weight_between, splits, IsTight, bool_number, walk, ring_sum, dual_sum_of}
+use Rattle.def_forest.specs.Forests.{Forest, weight_between, IsTight, walk, ring_sum, dual_sum_of}
 use Rattle.def_forest.specs.Valid.{IsFeasible, IsNested, IsRing, IsJoint, IsTree, IsValid}
 use Rattle.def_forest.specs.declared.kinds.Label.TheVariants.{Outer, Inner, Outside}
 use Rattle.def_forest.specs.{Darts.Darts, Darts.AreDarts, Darts.far, Opened.KeepsParts, Steps.weight_change}
@@ -38,9 +38,7 @@ module _ {g : Darts} (are : AreDarts g) {f new : Forest} {b : ℕ} (changed : Ch
   pub same_load : (u v : ℕ) → u < g.n → v < g.n → weight_between new u v ≡ weight_between f u v
   same_load u v lu lv =
       let sum : ℕ → ℤ = λ s. weight_between (record new { size = s }) u v in
-      ap sum size ∙ total_below_same (λ x. cond (splits (new.holds x) u v) (new.weight x) (pos 0))
-      (λ x. cond (splits (f.holds x) u v) (f.weight x) (pos 0)) f.size
-      (λ x l. grind (arith, weight x, changed.weightless, holds x u, holds x v))
+      ap sum size ∙ total_below_same _ _ f.size (search rules)
 
   pub same_tight : {d : ℕ} → IsTight g f d → IsTight g new d
   same_tight {d} tight = search rules
@@ -66,11 +64,8 @@ module _ {g : Darts} (are : AreDarts g) {f new : Forest} {b : ℕ} (changed : Ch
     lower = λ k. rw (walks k, (sets (at k) (old k).other).rank, set.rank) (ring.lower k);
     below = λ k. rw (walks k, size) (ring.below k);
     distinct = λ i j l h e. ring.distinct i j l (subst (λ n. j < n) set.many h) (sym (walks i) ∙ e ∙ walks j);
-    all = λ p up inner. (let w = ring.all p (back p up inner) inner in
-        (w.0, rw set.many w.1, walks w.0 ∙ w.2));
-    shared = λ v l. rw (holds c v ne l, set.many) (ring.shared v l ∙ ring_sum_same f.nest.after new.nest.after
-        (λ p. bool_number (f.holds p v)) (λ p. bool_number (new.holds p v)) (f.nest.head c) (new.nest.head c)
-        (f.nest.parts c) walks (λ k. ap bool_number (sym (holds (at k) v (old k).other l))));
+    all = search (rules, walks);
+    shared = search (rules, ring_sum_same, walks);
   }
     where
       set : KeepsParts f new c
@@ -102,10 +97,7 @@ module _ {g : Darts} (are : AreDarts g) {f new : Forest} {b : ℕ} (changed : Ch
       → ((p : ℕ) → new.nest.up p ≢ p → IsJoint g new p) → IsNested g new
   same_nested nested ring_b empty_b ring_old live joints = record {
     alone = λ v w lv lw. holds v w (λ e. absurd (omega arith)) lw ∙ nested.alone v w lv lw;
-    rings = λ c high live. elim (cases_eq c b) [
-      | inl e ↦ rw e (ring_b (rw e at live))
-      | inr ne ↦ ring_old c ne (nested.rings c high (λ none. live ((sets c ne).many ∙ none)))
-    ];
+    rings = λ c high live. elim (cases_eq c b) [ inl e ↦ rw e (ring_b (rw e at live)) | inr ne ↦ search rules ];
     empty = λ c v high low none.
         grind (arith, empty_b v low, holds c v, nested.empty c v, λ (ne : c ≢ b). (sets c ne).many);
     weightless = λ c high none. grind (arith, weight c, nested.weightless c, λ (ne : c ≢ b). (sets c ne).many);
@@ -115,11 +107,6 @@ module _ {g : Darts} (are : AreDarts g) {f new : Forest} {b : ℕ} (changed : Ch
 
 -- A shift with a feasible end keeps a forest valid, and raises the dual's sum: the tree has one outer blossom more than
 -- inner ones.
-
--- What moves against each other, or stays.
-opposite : (t : ℤ) (a b : Label) → (a ≡ Outer → b ≡ Inner) → (a ≡ Inner → b ≡ Outer) → (a ≡ Outside → b ≡ Outside)
-    → weight_change a t +ℤ weight_change b t ≡ pos 0
-opposite t a b outer inner off = grind (arith, ints)
 
 module _ {g : Darts} (are : AreDarts g) {f : Forest} {root : Option ℕ} (valid : IsValid g f root) (t : ℤ) where
   -- A tight dart whose ends move against each other, or lie in one blossom, stays tight.
@@ -163,7 +150,7 @@ module _ {g : Darts} (are : AreDarts g) {f : Forest} {root : Option ℕ} (valid 
     matched = λ b d mate. (let is = valid.matched b d mate in
         let outer = outer_mate are valid b d in
         let inner = inner_mate are valid b d in
-        let tight = still_tight is.tight (λ ne. search (rules, opposite, outer, inner, valid.outside b d)) in
+        let tight = still_tight is.tight (λ ne. search (rules, ints, outer, inner, valid.outside b d)) in
         assumption);
     tree = λ r e. shifted_tree (valid.tree r e);
     no_tree = valid.no_tree;
@@ -236,9 +223,7 @@ module _ {g : Darts} (are : AreDarts g) {f : Forest} {r : ℕ} (valid : IsValid 
           (λ inner at. (let is = tree.inner c inner in
           ne (cc (child_mate inner, w.1, are.twin_twin is.dart, (valid.matched c is.dart is.mate).here))))
           (λ inner at. cc)) in
-          let own = hit_same (inner_of g f c0) b (sym back) in
-          let other = hit_other c0 b (λ e. pair.other (sym e)) in
-          omega (arith, ints, pair_inner b w.2, hit_other r b (λ e. cc (w.1, tree.root_free))))
+          search (rules, hit_same, inner_of, hit_other))
     ])
     | inr (inl inner) ↦ rw inner (
         let child_off = λ (c : ℕ) (lc : f.label c ≡ Inner) (at : inner_of g f c ≡ b).
@@ -248,8 +233,7 @@ module _ {g : Darts} (are : AreDarts g) {f : Forest} {r : ℕ} (valid : IsValid 
         let mate = hit_other (inner_of g f b) b (λ e. child_off b inner (sym e)) in
         omega (arith, ints, hit_same b b refl, hit_other r b (λ e. cc tree.root_outer)))
     | inr (inr off) ↦ rw off (
-        let none = total_below_none (pair_at b) f.size (λ c lc. pair_none (λ inner at. cc (child_outer inner))
-        (λ inner at. cc)) in
+        let none = total_below_none (pair_at b) f.size (search (rules, child_outer)) in
         omega (arith, ints, hit_other r b (λ e. cc tree.root_outer)))
   ]
     where
@@ -258,22 +242,20 @@ module _ {g : Darts} (are : AreDarts g) {f : Forest} {r : ℕ} (valid : IsValid 
 
   -- An inner blossom and its mate count for nothing together.
   pairs_none : (c : ℕ) → c < f.size → total_below (λ b. pair_at b c) f.size ≡ pos 0
-  pairs_none c lc = elim (label_is (f.label c)) [
-    | inl e ↦ total_below_none (λ b. pair_at b c) f.size (λ b l. cond-false _ _ _ (ap is_inner e))
-    | inr (inl e) ↦ (let same = total_below_same (λ b. pair_at b c) (λ b. hit (inner_of g f c) b -ℤ hit c b) f.size
-        (λ b lb. pair_inner b e) in
+  pairs_none c lc = elim (label_is _) [
+    | inl e ↦ total_below_none _ f.size (λ b l. cond-false _ _ _ (ap is_inner e))
+    | inr (inl e) ↦ (let same = total_below_same _ _ f.size (λ b lb. pair_inner b e) in
         let parts = total_below_minus (hit (inner_of g f c)) (hit c) f.size in
         let mate = sum_at t (named_low are valid (outer_named (child_outer e))) in
         omega (arith, ints, sum_at t lc))
-    | inr (inr e) ↦ total_below_none (λ b. pair_at b c) f.size (λ b l. cond-false _ _ _ (ap is_inner e))
+    | inr (inr e) ↦ total_below_none _ f.size (λ b l. cond-false _ _ _ (ap is_inner e))
   ]
 
   -- The sum of the changes.
   changes : total_below (λ b. weight_change (f.label b) t) f.size ≡ t
   changes =
-      let places = total_below_same (λ b. total_below (pair_at b) f.size)
-      (λ b. weight_change (f.label b) t -ℤ hit r b) f.size at_place in
-      let pairs = total_below_none (λ c. total_below (λ b. pair_at b c) f.size) f.size pairs_none in
+      let places = total_below_same _ _ _ at_place in
+      let pairs = total_below_none _ _ pairs_none in
       let root = sum_at t (named_low are valid (outer_named tree.root_outer)) in
       let orders = sums_exchanged pair_at f.size f.size in
       let parts = total_below_minus (λ b. weight_change (f.label b) t) (hit r) f.size in

@@ -1,13 +1,13 @@
 -- A shrink keeps a forest valid: a cycle of tight darts in its tree becomes one outer blossom.
 use Rattle.std.proofs.Common.{rules, ◌≡◌, ◌≢◌, ℕ, suc, ◌<◌, ◌≤◌, Bool, true, false, cond, eqb, Some, None, refl, sym}
 use Rattle.std.proofs.Common.{◌∙◌, ap, inl, inr, arith}
-use Rattle.std.proofs.lemmas.Bool.{cases_eq, cases_Bool, cond_both, false_from_ne_true, eq-eqb, ne_eqb}
+use Rattle.std.proofs.lemmas.Bool.{cases_Bool, cond_both, false_from_ne_true, eq-eqb, ne_eqb}
 use Rattle.def_forest.specs.Forests.{Forest, IsTight, IsOutermost, bool_number, set_at, walk}
 use Rattle.def_forest.specs.{Valid.AreOutermost, Valid.IsInner, Valid.IsJoint, Valid.IsNested, Valid.IsRing}
 use Rattle.def_forest.specs.{Valid.IsTree, Valid.IsValid, Darts.Darts, Darts.AreDarts, Darts.far, Shrunk.IsUnused}
 use Rattle.def_forest.specs.{Shrunk.IsCycle, Shrunk.IsClosedRow, Shrunk.IsShrunk}
 use Rattle.def_forest.specs.{declared.kinds.Label.TheVariants.Outer, declared.kinds.Label.TheVariants.Outside}
-use Rattle.forest_laws.proofs.Grows.{set_here, set_there, true_false, far_low, far_twin, tree_valid, IsInOrder}
+use Rattle.forest_laws.proofs.Grows.{set_here, far_low, tree_valid, IsInOrder}
 use Rattle.forest_laws.proofs.Shifts.{same_feasible, ChangesOnly, same_joint, same_nested, same_ring, ring_sum_same}
 use Rattle.forest_laws.proofs.Shifts.{same_tight as tight_stays}
 
@@ -102,8 +102,7 @@ module _ {g : Darts} {f : Forest} {r : ℕ} {new : Forest} {inside : ℕ → Boo
         let none = unused.no_out v lv in
         grind (arith, is.out u lu, is.out v lv, is.holds_new v lv, is.holds_old (f.out u) v, unused.no_out u lu));
     tops = λ v l. grind (arith, is.out v l, up_b, up_off (f.out v) (unused.no_out v l), valid.outermost.tops v l);
-    together = λ x u v lu lv hu hv. (let was = valid.outermost.together x u v lu lv in
-        let new_u = is.holds_new u lu in
+    together = λ x u v lu lv hu hv. (let new_u = is.holds_new u lu in
         let new_v = is.holds_new v lv in
         grind (arith, is.out u lu, is.out v lv, is.holds_old x u, is.holds_old x v));
     named = λ x n. elim (place x) [
@@ -118,11 +117,9 @@ module _ {g : Darts} {f : Forest} {r : ℕ} {new : Forest} {inside : ℕ → Boo
   -- The ring of another set, and the new ring.
   ring_old : {c : ℕ} → c ≢ b → IsRing g f c → IsRing g new c
   ring_old {c} ne ring = same_ring are changes ne ring
-      (λ p up inner. (let other : p ≢ b = λ e. ne (sym up ∙ ap f.nest.up e ∙ unused.alone) in
-      let off = false_from_ne_true (inside p) (λ on. (let w = marked_out p on in
+      (λ p up inner. (let off = false_from_ne_true (inside p) (λ on. (let w = marked_out p on in
       inner (sym (rw w.2 at (valid.outermost.tops w.0 w.1)) ∙ up))) in
-      search (rules, up_off, is.after)))
-      (λ p up inner. grind (arith, place p, up_b, up_on p, up_off p))
+      search (rules, up_off, is.after))) (search (rules, up_off))
 
   ring_new : IsRing g new b
   ring_new = let head_b = is.head b ∙ set_here f.nest.head b front in record {
@@ -153,7 +150,6 @@ module _ {g : Darts} {f : Forest} {r : ℕ} {new : Forest} {inside : ℕ → Boo
       let joint = new.nest.joint p in
       let tight = row.tight p on in
       let near_low = are.near_low joint tight.low in
-      let far_is_low = far_low g are joint tight.low in
       let w = row.all p on in
       let next : inside (new.nest.after p) ≡ true = rw (← w.2) (row.marked (suc w.0)) in
       let begins = row.begins p on in let ends = row.ends p on in
@@ -163,11 +159,9 @@ module _ {g : Darts} {f : Forest} {r : ℕ} {new : Forest} {inside : ℕ → Boo
   joint_old p ne off inner =
       let old = valid.nested.joints p inner in
       let joint = f.nest.joint p in
-      let far_is_low = far_low g are joint old.tight.low in
-      same_joint are changes ne (λ e. true_false (ap (λ x. f.holds x (far g joint)) (sym e) ∙ old.ends)
-      (valid.nested.empty b (far g joint) unused.high far_is_low unused.no_parts)) (is.after p off) (is.joint p off)
-      (rw (is.out (g.near joint) (are.near_low joint old.tight.low), is.out (far g joint) far_is_low, old.same) refl)
-      old
+      let far_is_low = far_low g are _ old.tight.low in
+      same_joint are changes ne (search rules) (is.after p off) (is.joint p off)
+      (rw (is.out (g.near joint) (are.near_low joint old.tight.low), is.out (far g _) far_is_low, old.same) refl) old
 
   pub new_nested : IsNested g new
   new_nested = same_nested are changes valid.nested (λ some. ring_new) (λ v l none. absurd (some_parts none))
@@ -180,9 +174,7 @@ module _ {g : Darts} {f : Forest} {r : ℕ} {new : Forest} {inside : ℕ → Boo
   -- Who is matched to a blossom of the cycle from outside it is matched to the top.
   pub only_top : (c d : ℕ) → inside c ≡ false → f.mate c ≡ Some d → inside (f.out (far g d)) ≡ true
       → f.out (far g d) ≡ top
-  only_top c d off mate on =
-      let pair = valid.matched c d mate in
-      grind (arith, cases_eq (f.out (far g d)) top, far_twin are d, cycle.mates (f.out (far g d)) (g.twin d) on)
+  only_top c d off mate on = let pair = valid.matched c d mate in search rules
 
   -- Where a dart begins beside the cycle, and where it leads.
   pub near_off : {c d : ℕ} → IsTight g f d → f.out (g.near d) ≡ c → inside c ≡ false → new.out (g.near d) ≡ c
@@ -211,28 +203,19 @@ module _ {g : Darts} {f : Forest} {r : ℕ} {new : Forest} {inside : ℕ → Boo
   depth_b : depths b ≡ tree.depth top
   depth_b = set_here tree.depth b (tree.depth top)
 
-  depth_old : (x : ℕ) → x ≢ b → depths x ≡ tree.depth x
-  depth_old x ne = set_there tree.depth b x (tree.depth top) ne
-
-  -- Where a dart leads beside the cycle, nothing is deeper.
-  beyond_depth : {d : ℕ} → IsTight g f d → inside (f.out (far g d)) ≡ false → depths (new.out (far g d))
-      ≡ tree.depth (f.out (far g d))
-  beyond_depth {d} tight off = search (rules, beyond_off)
-
   -- Where a dart leads to an outer blossom, it leads to an outer one that is no deeper.
   outer_after : {d : ℕ} → IsTight g f d → f.label (f.out (far g d)) ≡ Outer → (new.label (new.out (far g d)) ≡ Outer)
       × (depths (new.out (far g d)) ≤ tree.depth (f.out (far g d)))
-  outer_after {d} tight outer = search (rules, beyond_on, beyond_label, beyond_depth)
+  outer_after {d} tight outer = search (rules, beyond_on, beyond_label, beyond_off)
 
   new_inner : {c : ℕ} → c ≢ b → inside c ≡ false → IsInner g f tree.depth c → IsInner g new depths c
   new_inner {c} ne off old =
       let parent = outer_after old.tight old.above in
       let down = (valid.matched c old.dart old.mate).tight in
-      let own = depth_old c ne in
       let link = is.link c in let tight = same_tight old.tight in let here = near_off old.tight old.here off in
-      let mate = mate_off c ne off in let child = outer_after down old.child in
+      let child = outer_after down old.child in
       let same : depths (new.out (far g old.dart)) ≡ depths c = (let top_is = only_top c old.dart off old.mate in
-      grind (arith, cases_Bool (inside (f.out (far g old.dart))), beyond_on down, depth_b, beyond_depth down)) in
+      grind (arith, cases_Bool (inside (f.out (far g old.dart))), beyond_on down, depth_b, beyond_off)) in
       search rules
 
   -- The new blossom, and one beside the cycle.
@@ -242,11 +225,7 @@ module _ {g : Darts} {f : Forest} {r : ℕ} {new : Forest} {inside : ℕ → Boo
         let pair = valid.matched top d was in
         let off = cycle.top_mate d was in
         let tight = same_tight pair.tight in
-        let here = out_on (g.near d) (are.near_low d pair.tight.low) in
-        let away = beyond_off pair.tight off in
-        let other = beyond_other pair.tight in
-        let partner = beyond_mate pair.tight off in
-        grind (arith, cycle.top_in));
+        search (rules, beyond_mate));
     inner = λ l. absurd (cc label_b);
     outer = λ l. elim (tree.outer top cycle.top_outer) [
       | inl at ↦ inl (rw (ap inside (sym at) ∙ cycle.top_in) refl)
@@ -260,8 +239,7 @@ module _ {g : Darts} {f : Forest} {r : ℕ} {new : Forest} {inside : ℕ → Boo
   order_old c ne off = let label = label_off c ne off in let mated = mate_off c ne off in record {
     matched = λ d mate. (let was = sym mated ∙ mate in
         let pair = valid.matched c d was in
-        let tight = same_tight pair.tight in let here = near_off pair.tight pair.here off in
-        let on = beyond_on pair.tight in let away = beyond_off pair.tight in let partner = beyond_mate pair.tight in
+        let tight = same_tight pair.tight in let on = beyond_on pair.tight in let partner = beyond_mate pair.tight in
         let top_is = only_top c d off was in grind (arith, cases_Bool (inside (f.out (far g d))), mate_b));
     inner = λ l. new_inner ne off (tree.inner c (sym label ∙ l));
     outer = λ l. elim (tree.outer c (sym label ∙ l)) [
@@ -286,6 +264,5 @@ module _ {g : Darts} {f : Forest} {r : ℕ} {new : Forest} {inside : ℕ → Boo
   pub shrunk_valid : IsValid g new (Some (cond (inside r) b r))
   shrunk_valid =
       let r_old : r ≢ b = λ e. cc (tree.root_outer, unused.outside) in
-      tree_valid depths new_outermost new_nested (same_feasible are changes valid.feasible)
-      (grind (arith, cases_Bool (inside r), label_b, label_off r r_old, tree.root_outer))
+      tree_valid depths new_outermost new_nested (same_feasible are changes valid.feasible) (search rules)
       (grind (arith, cases_Bool (inside r), mate_b, cycle.root_top, mate_off r r_old, tree.root_free)) in_order

@@ -1,8 +1,8 @@
 -- The potentials of the vertices of one blossom have one parity, and so have those of all vertices in the tree.
 use Rattle.std.proofs.Common.{rules, ◌≡◌, ℕ, zero, suc, ◌<◌, ◌≤◌, Bool, true, not, cond, length, Option, ℤ, pos, ◌+ℤ◌}
 use Rattle.std.proofs.Common.{◌-ℤ◌, refl, sym, ◌∙◌, ap, inl, inr, arith, ◌≢◌, ◌+◌, false, ◌||◌, eqb, ◌-◌, subst}
-use Rattle.std.proofs.lemmas.Bool.{cases_lt, eq-eqb, eqb-true, or_cases}
-use Rattle.{std.proofs.lemmas.Int.ints, forest_laws.proofs.Expands.number_true, forest_laws.proofs.Bounds.are_darts}
+use Rattle.std.proofs.lemmas.Bool.{cases_lt, eq-eqb, eqb-true}
+use Rattle.{std.proofs.lemmas.Int.ints, forest_laws.proofs.Bounds.are_darts}
 use Rattle.def_matching.specs.Matching.{WeightedGraph, IsGraph, edge_at}
 use Rattle.def_forest.specs.Forests.{Forest, splits, IsTight, bool_number, walk, ring_sum}
 use Rattle.def_forest.specs.{Darts.Darts, Darts.AreDarts, Darts.darts_of, Darts.far, Tables.slack_of, Valid.IsNested}
@@ -76,16 +76,14 @@ module _ {g : Darts} (are : AreDarts g) (f : Forest) where
       starts_alike : (k : ℕ) → AreAlike (potential f (start b 0)) (potential f (start b k))
       starts_alike zero = alike_self (potential f (start b 0))
       starts_alike (suc k) = alike_on (starts_alike k) (alike_on (tight_alike (joint k).tight)
-          (more (suc k) (far g (f.nest.joint (part b k))) (start b (suc k))
-          (far_low g are (f.nest.joint (part b k)) (joint k).tight.low) (start_low (suc k)) (joint k).ends
-          (joint (suc k)).begins))
+          (more (suc k) (far g _) (start b (suc k)) (far_low g are _ (joint k).tight.low) (start_low (suc k))
+          (joint k).ends (joint (suc k)).begins))
 
       to_start : (u : ℕ) → u < g.n → f.holds b u ≡ true → AreAlike (potential f u) (potential f (start b 0))
       to_start u lu hu =
           let w = ring_found f.nest.after (λ p. bool_number (f.holds p u)) (f.nest.head b) (f.nest.parts b)
           (rw (← ring.shared u lu, hu) (omega arith)) in
-          alike_on (more w.0 u (start b w.0) lu (start_low w.0) (number_true (f.holds (part b w.0) u) w.2)
-          (joint w.0).begins) (alike_back (starts_alike w.0))
+          alike_on (search (rules, start_low, joint)) (alike_back (starts_alike w.0))
 
       ring_alike : Within b
       ring_alike u v lu lv hu hv = alike_on (to_start u lu hu) (alike_back (to_start v lv hv))
@@ -102,8 +100,7 @@ module _ {g : Darts} (are : AreDarts g) (f : Forest) where
     -- Two vertices with one outermost blossom.
     pub together_alike : (u v : ℕ) → u < g.n → v < g.n → f.out u ≡ f.out v → AreAlike (potential f u) (potential f v)
     together_alike u v lu lv e = within valid.nested (suc (f.nest.rank (f.out u))) (f.out u) (omega arith) u v lu lv
-        (valid.outermost.held u u lu lu ∙ eq-eqb (f.out u) (f.out u) refl) (valid.outermost.held u v lu lv
-        ∙ eq-eqb (f.out v) (f.out u) (sym e))
+        (search rules) (valid.outermost.held u v lu lv ∙ eq-eqb (f.out v) (f.out u) (sym e))
 
     module _ {r : ℕ} (tree : IsTree g f r) (w : ℕ) (lw : w < g.n) (at_root : f.out w ≡ r) where
       -- The two ends of a dart, and what lies with them.
@@ -118,13 +115,12 @@ module _ {g : Darts} (are : AreDarts g) (f : Forest) where
       outer_alike (suc fuel) u lu label l = elim (tree.outer (f.out u) label) [
         | inl e ↦ together_alike u w lu lw (e ∙ sym at_root)
         | inr m ↦ (let pair = valid.matched (f.out u) m.0 m.1 in
-            let is = tree.inner (f.out (far g m.0)) m.2 in
-            let link = f.link (f.out (far g m.0)) in
+            let is = tree.inner (f.out (far g _)) m.2 in
+            let link = f.link (f.out (far g _)) in
             let near = are.near_low link is.tight.low in
             let level : tree.depth (f.out u) ≡ tree.depth (f.out (far g m.0)) = cc (are.twin_twin m.0) in
-            let more = outer_alike fuel (far g link) (far_low g are link is.tight.low) is.above (omega arith) in
-            alike_on (over u (g.near link) pair.tight lu near (sym pair.here) (sym is.here))
-            (alike_on (tight_alike is.tight) more))
+            let more = outer_alike fuel (far g _) (far_low g are _ is.tight.low) is.above (omega arith) in
+            alike_on (over u _ pair.tight lu near (sym pair.here) (sym is.here)) (alike_on (tight_alike is.tight) more))
       ]
 
       pub to_root : (u : ℕ) → u < g.n → f.label (f.out u) ≡ Outer → AreAlike (potential f u) (potential f w)
@@ -160,9 +156,7 @@ listed_at next from (suc many) k l = grind (arith, listed_at next from many k)
 pub listed_place : (next : ℕ → ℕ) (from many x : ℕ) → listed next from many x ≡ true → (k : ℕ) × (k < many)
     × (walk next from k ≡ x)
 listed_place next from zero x on = absurd (cc on)
-listed_place next from (suc many) x on =
-    let cases = or_cases (listed next from many x) (eqb (walk next from many) x) on in
-    search (rules, cases, listed_place next from many x)
+listed_place next from (suc many) x on = search (rules, listed_place next from many x)
 
 pub listed_off : (next : ℕ → ℕ) (from many x : ℕ) → ((k : ℕ) → k < many → walk next from k ≢ x)
     → listed next from many x ≡ false
@@ -257,7 +251,7 @@ module _ (next : ℕ → ℕ) (front many : ℕ) (inside : ℕ → Bool) (circle
       at_place : (s : ℕ) → s < many → IsCircle next (walk next front s) many inside
       at_place s ls = record {
         some = circle.some;
-        closed = shifted s many ∙ ((let e : s + many ≡ many + s = omega arith in ap (walk next front) e) ∙ round s);
+        closed = search (rules, shifted);
         distinct = λ i j lij lj e. differ s i j ls lij lj (sym (shifted s i) ∙ (e ∙ shifted s j));
         marked = λ k. ap inside (shifted s k) ∙ circle.marked (s + k);
         all = λ y m. found y (circle.all y m);
@@ -265,13 +259,12 @@ module _ (next : ℕ → ℕ) (front many : ℕ) (inside : ℕ → Bool) (circle
         where
           found : (y : ℕ) → (k : ℕ) × (k < many) × (walk next front k ≡ y) → (k : ℕ) × (k < many)
               × (walk next (walk next front s) k ≡ y)
-          found y w =
-              elim (cases_lt w.0 s) [
-                | inl l ↦ (let e : s + (w.0 + many - s) ≡ many + w.0 = omega arith in
-                    (w.0 + many - s, omega arith, shifted s (w.0 + many - s) ∙ rw e (round w.0 ∙ w.2)))
-                | inr h ↦ (let e : s + (w.0 - s) ≡ w.0 = omega arith in
-                    (w.0 - s, omega arith, shifted s (w.0 - s) ∙ rw e w.2))
-              ]
+          found y w = elim (cases_lt w.0 s) [
+            | inl l ↦ (let e : s + (w.0 + many - s) ≡ many + w.0 = omega arith in
+                (w.0 + many - s, omega arith, shifted s (w.0 + many - s) ∙ rw e (round w.0 ∙ w.2)))
+            | inr h ↦ (let e : s + (w.0 - s) ≡ w.0 = omega arith in
+                (w.0 - s, omega arith, shifted s (w.0 - s) ∙ rw e w.2))
+          ]
 
       by_place : (k : ℕ) × (k < many) × (walk next front k ≡ x) → IsCircle next x many inside
       by_place w = subst (λ y. IsCircle next y many inside) w.2 (at_place w.0 w.1)

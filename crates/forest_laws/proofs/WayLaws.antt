@@ -1,5 +1,5 @@
 -- Changing the matching along the way to the root: how it begins, goes on and ends, and why it ends.
-use Rattle.std.proofs.Common.{rules, ◌≡◌, ◌≢◌, ℕ, ◌<◌, ◌≤◌, Option, Some, None, refl, sym, ◌∙◌, ap, inl, inr, arith}
+use Rattle.std.proofs.Common.{rules, ◌≡◌, ◌≢◌, ℕ, Option, Some, None, refl, sym, ◌∙◌, ap, inl, inr, arith}
 use Rattle.std.proofs.lemmas.Bool.{cases_eq}
 use Rattle.def_forest.specs.{Darts.Darts, Darts.AreDarts, Darts.far, Forests.Forest, Forests.set_at, Steps.with_mates}
 use Rattle.def_forest.specs.{Steps.IsAugmented, Valid.IsMate, Valid.IsTree, Valid.IsInner, Valid.IsValid}
@@ -15,9 +15,8 @@ some_none o d is off = cc
 module _ {g : Darts} (are : AreDarts g) {f : Forest} {r : ℕ} (valid : IsValid g f (Some r)) (tree : IsTree g f r)
     (start : ℕ) where
   -- It begins where a dart reaches a blossom that is not matched.
-  pub begin : Reaches g f start → f.mate (f.out (far g start)) ≡ None
-      → IsAlmost g f tree.depth start (set_at f.mate (f.out (far g start)) (Some (g.twin start))) (f.out (g.near start))
-      start
+  pub begin : Reaches g f start → f.mate (f.out (far g start)) ≡ None → IsAlmost g f tree.depth start
+      (set_at f.mate (f.out (far g start)) (Some (g.twin start))) (f.out (g.near start)) start
   begin reach free =
       let there = f.out (far g start) in
       let at_there = set_here f.mate there (Some (g.twin start)) in
@@ -29,23 +28,21 @@ module _ {g : Darts} (are : AreDarts g) {f : Forest} {r : ℕ} (valid : IsValid 
         reached = at_there;
         above = inl reach.off;
         kept = λ b named low. elsewhere b (λ e. named (ap f.label e ∙ reach.off));
-        each = λ b d ne mate. (let twin = tight_twin are reach.tight in
-            let goes = far_twin are start in
-            grind (arith, at_there, elsewhere b, elsewhere (f.out (far g d)), valid.matched b d, free));
+        each = λ b d ne mate. (grind (
+          arith,
+          at_there,
+          elsewhere b,
+          elsewhere (f.out (far g d)),
+          valid.matched b d,
+          free,
+        ));
         more = λ b mate. grind arith;
         begun = λ off. cc at_there;
       }
 
   module _ {mate : ℕ → Option ℕ} {a e : ℕ} (almost : IsAlmost g f tree.depth start mate a e) where
-    -- The dart that is to match a leads to a blossom of the tree that is deeper, or out of the tree.
-    reaches_deeper : {x : ℕ} → f.label x ≢ Outside → tree.depth x ≤ tree.depth a → f.out (far g e) ≢ x
-    reaches_deeper named low at = search rules
-
     named_a : f.label a ≢ Outside
     named_a = outer_named almost.outer
-
-    not_back : f.out (far g e) ≢ a
-    not_back = reaches_deeper named_a (omega arith)
 
     own : mate a ≡ f.mate a
     own = almost.kept a named_a (omega arith)
@@ -66,9 +63,7 @@ module _ {g : Darts} (are : AreDarts g) {f : Forest} {r : ℕ} (valid : IsValid 
       outermost = same_outermost valid.outermost (λ b named. absurd (named refl));
       nested = same_nested valid.nested;
       feasible = same_feasible valid.feasible;
-      matched = λ b d is. (let there = elsewhere (f.out (far g d)) in
-          let reached = elsewhere (f.out (far g e)) not_back in
-          grind (arith, almost.each b d, almost.reached, elsewhere b, here, own, not_back, are.twin_twin e));
+      matched = λ b d is. (grind (arith, almost.each b d, almost.reached, elsewhere b, here, own, are.twin_twin e));
       tree = λ x is. absurd cc;
       no_tree = λ is b. refl;
       outside = λ b d off is. refl;
@@ -76,8 +71,7 @@ module _ {g : Darts} (are : AreDarts g) {f : Forest} {r : ℕ} (valid : IsValid 
 
     -- What has come of it.
     pub end_augmented : f.mate a ≡ None → IsAugmented g f (with_mates f (set_at mate a (Some e))) r start
-    end_augmented free =
-        grind (arith, here, tree.outer a almost.outer, almost.begun, almost.more)
+    end_augmented free = grind (arith, here, tree.outer a almost.outer, almost.begun, almost.more)
 
     module _ (old : ℕ) (was : f.mate a ≡ Some old) where
       abbrev inn : ℕ
@@ -100,9 +94,6 @@ module _ {g : Darts} (are : AreDarts g) {f : Forest} {r : ℕ} (valid : IsValid 
 
       abbrev next : ℕ
       next = f.out (far g (f.link inn))
-
-      next_nearer : tree.depth next < tree.depth a
-      next_nearer = omega (arith, inn_is.nearer, inn_depth)
 
       abbrev turned : ℕ → Option ℕ
       turned = set_at (set_at mate a (Some e)) (f.out (far g old)) (Some (f.link (f.out (far g old))))
@@ -144,13 +135,16 @@ module _ {g : Darts} (are : AreDarts g) {f : Forest} {r : ℕ} (valid : IsValid 
             here = refl;
             reached = ap turned reached ∙ at_inn ∙ ap Some (sym (are.twin_twin up));
             above = inr (rw reached inn_is.nearer);
-            kept = λ b named low. (let there = place b in grind (arith, almost.kept b named, inn_depth, next_nearer));
+            kept = λ b named low. (let there = place b in grind (
+              arith,
+              almost.kept b named,
+              inn_depth,
+              inn_is.nearer,
+              inn_depth,
+            ));
             each = λ b d ne is. elim (place b) [
               | is_inn at now ↦ rw (some_is d up (sym is ∙ now)) (grind (arith, inn_is, are.twin_twin up))
-              | is_a at now ↦ (let past = set_there mates inn (f.out (far g e)) (Some up)
-                  (reaches_deeper (inner_named inn_inner) (omega (arith, inn_depth))) in
-                  let reached = elsewhere (f.out (far g e)) not_back in
-                  rw (some_is d e (sym is ∙ now)) (grind (arith, almost.reached, not_back)))
+              | is_a at now ↦ search (rules, inn_inner, inn_depth)
               | is_other ni na same ↦ (let half = almost.each b d na (sym same ∙ is) in
                   record { tight = half.tight; here = half.here; other = half.other; back = inl (by_old ni na half) })
             ];

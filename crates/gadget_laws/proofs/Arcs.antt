@@ -1,6 +1,6 @@
 -- Soundness: the list of an accepted certificate is least.
 use Rattle.std.proofs.Common.{rules, ◌≡◌, ℕ, zero, suc, ◌-◌, ◌/◌, ◌<◌, ◌≤◌, true, false, List, [], ◌∷◌, length, ℤ, pos}
-use Rattle.std.proofs.Common.{◌-ℤ◌, ◌≤ℤ◌, unsigned_abs, sym, ◌∙◌, ap, inl, inr, arith, ◌+◌, ◌*◌, ◌%◌, Bool, ◌==◌, take}
+use Rattle.std.proofs.Common.{◌-ℤ◌, ◌≤ℤ◌, unsigned_abs, ◌∙◌, ap, inl, inr, arith, ◌+◌, ◌*◌, ◌%◌, Bool, ◌==◌, take}
 use Rattle.std.proofs.Common.{drop, Option, ◌+ℤ◌, refl, add-mul, one-mul, zero-mul, zero-add, add-zero}
 use Rattle.{std.proofs.lemmas.Bool.cases_lt, sum_laws.proofs.Sums.integers, sum_laws.proofs.Sums.count_below_same}
 use Rattle.def_flow.specs.Admissible.{IsAdmissible, IsLeast, arc_deviation, deviation, entries}
@@ -10,7 +10,7 @@ use Rattle.def_flow.specs.{declared.net.Arc.Arc, MatchingGraph.matching_graph, A
 use Rattle.def_flow.specs.{Accepted.IsAccepted, Gadget.IsStepUp, Gadget.IsInBox, Gadget.lows, Gadget.caps}
 use Rattle.def_flow.specs.{declared.net.End.End, declared.units.ArcUnit.ArcUnit}
 use Rattle.network_laws.proofs.Part.{same_sides, lift_law, arc_convex}
-use Rattle.gadget_laws.specs.{Box.IsRaised, Box.matching_told, Box.ups, Marks.trues, Told.marks_from, Told.states_told}
+use Rattle.gadget_laws.specs.{Box.IsRaised, Box.ups, Marks.trues, Told.marks_from, Told.states_told}
 use Rattle.gadget_laws.specs.{Told.steps_told, Told.lengths_on, Told.lengths_told}
 use Rattle.gadget_laws.proofs.{Box.own_box, Box.arcwise_length, Box.box_length, Box.down_fits, Box.weighted_ends}
 use Rattle.gadget_laws.proofs.{Box.units_length, Box.box_active, Box.box_sides, Box.told_active, Box.cost_split}
@@ -56,28 +56,21 @@ near_not_better : (net : Network) (c : Certificate) → IsWithinBounds net → I
 near_not_better net c bounds accepted f af near =
     let ys : List ℕ = listed f c.x in
     let js : List ℕ = units_on net.arcs f c.x in
-    let is_near : IsNear (λ k. (arc_at net.arcs k).floor) f c.x = λ k l.
-    (let lk : k < length net.arcs = omega (arith, accepted.count) in
-    (af.high k lk, accepted.admissible.high k lk, near k lk)) in
-    let same : (k : ℕ) → k < length net.arcs → entries ys k ≡ f k = λ k l.
-    listed_entries f c.x (λ j lj. omega (integers, (is_near j lj).0)) k (omega (arith, accepted.count)) in
+    let is_near : IsNear (λ k. (arc_at net.arcs k).floor) f c.x = search rules in
+    let same : (k : ℕ) → k < length net.arcs → entries ys k ≡ f k = search (rules, listed_entries, integers) in
     let fits : IsAdmissible net (entries ys) = record {
       high = λ k l. (let e : entries ys k ≡ f k = same k l in omega (integers, e, af.high k l));
-      balanced = λ v. same_sides net.arcs (entries ys) f same true v
-          ∙ (af.balanced v ∙ sym (same_sides net.arcs (entries ys) f same false v));
+      balanced = λ v. same_sides _ _ f same true v ∙ (search (rules, same_sides));
     } in
-    let told = matching_law net 1 c.x js ys bounds (omega arith) accepted.count accepted.admissible
-    fits (near_box net.arcs f c.x accepted.count is_near) in
+    let told = matching_law _ 1 _ js ys bounds (omega arith) accepted.count accepted.admissible
+    fits (near_box _ f _ accepted.count is_near) in
     omega (
       integers,
       accepted.sums,
-      weak_duality (matching_graph net 1 c.x) c.dual (graph_law net 1 c.x bounds) accepted.yes
-          (matching_told net 1 c.x js) told.0,
+      weak_duality _ _ (graph_law _ 1 _ bounds) accepted.yes _ told.0,
       told.1,
-      box_deviation net 1 c.x (arcwise (down 1) net.arcs c.x) c.x accepted.count
-          (own_box 1 net.arcs c.x accepted.count),
-      count_below_same (λ k. arc_deviation net (arc_at net.arcs k) (entries ys k)) (λ k. arc_deviation net
-          (arc_at net.arcs k) (f k)) (length net.arcs) (λ k l. ap (arc_deviation net (arc_at net.arcs k)) (same k l)),
+      box_deviation net 1 _ _ _ accepted.count (own_box 1 _ _ accepted.count),
+      count_below_same _ _ _ (λ k l. ap (arc_deviation net (arc_at net.arcs k)) (same k l)),
     )
 
 -- The list of an accepted certificate is least.
@@ -103,16 +96,11 @@ pub in_box : (step : ℕ) (arcs : List Arc) (xs ys : List ℕ) → 1 ≤ step
     → IsRaised step arcs xs (ups step (arcwise (low step) arcs xs) ys) ys
 in_box step (a ∷ arcs) (x ∷ xs) (y ∷ ys) some l are =
     let e = are.each 0 (omega arith) in
-    let up : (y - low step a x) / step ≡ e.up = step_up e.up step (low step a x) y some e.is in
-    let high : (y - low step a x) / step ≤ cap step a x = omega (arith, up, e.few) in
-    let place = e.is ∙ ap (λ j. low step a x + j * step) (sym up) in
-    let count : suc (length ys) ≡ suc (length (arcwise (low step) arcs xs)) = are.count in (
-      high,
-      place,
-      in_box step arcs xs ys some (omega arith) (record {
-        count = omega arith;
-        each = λ k lk. are.each (suc k) (omega arith);
-      }),
+    search (
+      rules,
+      step_up,
+      in_box step arcs xs ys some (omega arith)
+          (record { count = omega arith; each = λ k lk. are.each (suc k) (omega arith) }),
     )
 in_box step arcs xs ys some l are = search rules
 
@@ -141,14 +129,12 @@ increments : (net : Network) (step : ℕ) (a : Arc) (x k t : ℕ) → at_step ne
 increments net step a x k t =
     let here : ℤ = pos (low step a x + k * step) in
     let there : ℤ = pos (low step a x + (k + 1 + t) * step) in
-    let spread : (k + 1 + t) * step ≡ k * step + step + t * step =
-    omega (arith, add-mul (k + 1) t step, add-mul k 1 step, one-mul step) in
     let up : here +ℤ pos step ≡ pos (low step a x + (k + 1) * step) =
     omega (integers, add-mul k 1 step, one-mul step) in
-    let less : there -ℤ pos step ≡ pos (low step a x + (k + t) * step) = omega (integers, spread, add-mul k t step) in
+    let less : there -ℤ pos step ≡ pos (low step a x + (k + t) * step) = omega (integers, add-mul k t step) in
     omega (
       arith,
-      arc_convex net a here there (pos step) (inl (omega integers, omega (integers, spread))),
+      arc_convex net a here there (pos step) (inl (omega integers, omega (integers))),
       ap (arc_deviation net a) up,
       ap (arc_deviation net a) less,
     )
@@ -187,14 +173,13 @@ told_dear : (net : Network) (step : ℕ) (arcs : List Arc) (xs : List ℕ) (ons 
     ≤ℤ (cost_on (units net step arcs xs) ons +ℤ pos (deviations net arcs (arcwise (low step) arcs xs)))
 told_dear net step (a ∷ arcs) (x ∷ xs) ons m =
     let n = cap step a x in
-    let ls = first_length net step a arcs x xs ons m in
+    let ls = first_length net _ a _ x xs _ m in
     let begin : low step a x + 0 * step ≡ low step a x = omega (arith, zero-mul step) in
     omega (
       integers,
       ap (λ k. arc_deviation net a (pos k)) begin,
       ap (at_step net step a x) (zero-add (trues (take n ons))),
-      cost_split (units_from net step a (low step a x) 0 n) (units net step arcs xs) ons
-          (units_length net step a (low step a x) 0 n) ls.0,
+      cost_split _ (units net step arcs xs) ons (units_length net step a (low step a x) 0 n) ls.0,
       any_cost net step a x 0 n ons ls.0,
       told_dear net step arcs xs (drop n ons) ls.1,
     )
@@ -229,21 +214,21 @@ pub lengths_law : (net : Network) (step : ℕ) (xs m : List ℕ) → IsWithinBou
     (deviation net (entries (lows net step xs)))) ≤ℤ matching_cost (matching_graph net step xs) m)
     × IsInBox step (lows net step xs) (caps net step xs) (lengths_told net step xs m)
 lengths_law net step xs m bounds positive l ax perfect =
-    let us : List ArcUnit = units net step net.arcs xs in
+    let us : List ArcUnit = units net _ _ xs in
     let copies_at : ℕ → ℕ = λ v. active v us (states_at net step xs) in
     let lone : Bool = rim_active us (states_at net step xs) % 2 == 1 in
     let ms : List Bool = marks_from 0 (length (matching_graph net step xs).edges) m in
     let ons : List Bool = states_told copies_at us ms in
     let js : List ℕ = steps_told step net.arcs xs ons in
-    let ds : List ℕ = arcwise (down step) net.arcs xs in
+    let ds : List ℕ = arcwise (down _) net.arcs xs in
     let ys : List ℕ = lengths_told net step xs m in
-    let box : IsRaised step net.arcs xs js ys = told_box step net.arcs xs ons l in
-    let own : IsRaised step net.arcs xs ds xs = own_box step net.arcs xs l in
-    let count : length ys ≡ length net.arcs = box_length step net.arcs xs js ys box in
-    let at : UnitsAt net.nodes us = units_at net step xs bounds in
-    let ons_count : length ons ≡ length us = told_length copies_at us ms in
+    let box : IsRaised step net.arcs xs js ys = told_box _ _ xs _ l in
+    let own : IsRaised step net.arcs xs ds xs = own_box _ _ xs l in
+    let count : length ys ≡ length net.arcs = box_length _ _ xs js ys box in
+    let at : UnitsAt net.nodes us = units_at _ _ xs bounds in
+    let ons_count : length ons ≡ length us = told_length _ us ms in
     let fills : (v : ℕ) → active v us ons ≡ copies_at v = λ v. elim (cases_lt v net.nodes) [
-      | inl before ↦ told_fills net.nodes copies_at lone us at m perfect v before
+      | inl before ↦ told_fills _ _ _ us at m perfect v before
       | inr past ↦ search (rules, active_past)
     ] in
     let side : (v : ℕ) → weighted_ends v true net.arcs ys ≡ weighted_ends v false net.arcs ys = λ v.
@@ -251,7 +236,7 @@ lengths_law net step xs m bounds positive l ax perfect =
     ≡ weighted_ends v false net.arcs js + weighted_ends v true net.arcs ds = omega (
       arith,
       fills v,
-      told_active net step v net.arcs xs ons ons_count,
+      told_active net _ v _ xs _ ons_count,
       box_active net step v net.arcs xs ds xs own,
     ) in omega (
       arith,
@@ -260,10 +245,7 @@ lengths_law net step xs m bounds positive l ax perfect =
       balanced_list net.arcs xs l ax.balanced v,
     )) in (
       count,
-      record {
-        high = box_high step net.arcs xs js ys box ax.high;
-        balanced = search (rules, side_list);
-      },
+      record { high = box_high step net.arcs xs js ys box ax.high; balanced = search (rules, side_list) },
       omega (
         integers,
         told_cost net.nodes copies_at lone us at m perfect,

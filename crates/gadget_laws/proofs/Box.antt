@@ -1,24 +1,23 @@
 -- Lists in the box, as states of the units: the active ends at a node, and the cost.
-use Rattle.std.proofs.Common.{rules, ◌≡◌, ℕ, zero, suc, ◌+◌, ◌-◌, ◌*◌, ◌/◌, ◌≤◌, Bool, true, false, cond, ◌&&◌, ◌==◌}
-use Rattle.std.proofs.Common.{List, [], ◌∷◌, ◌++◌, length, take, drop, pos, ◌+ℤ◌, refl, sym, ◌∙◌, ap, add-mul, mul-add}
+use Rattle.std.proofs.Common.{rules, ◌≡◌, ℕ, zero, suc, ◌+◌, ◌-◌, ◌*◌, ◌≤◌, Bool, true, false, cond, ◌&&◌, ◌==◌, List}
+use Rattle.std.proofs.Common.{[], ◌∷◌, ◌++◌, length, take, drop, pos, ◌+ℤ◌, refl, sym, ◌∙◌, ap, add-mul, mul-add}
 use Rattle.std.proofs.Common.{mul_comm, zero-mul, zero-add, add-zero, length-append, arith, ◌%◌, IsTrue, ◌-ℤ◌, ◌<◌, ℤ}
-use Rattle.std.proofs.Common.{◌*ℤ◌}
-use Rattle.std.proofs.{lemmas.List.length-drop, Math.Nat.mul-div_cancel_left, Math.Nat.mul-le-mul_left}
-use Rattle.std.proofs.{Math.Nat.mul-le-mul, lemmas.Bool.and_parts, lemmas.Bool.cases_eq, lemmas.Bool.Decides.nat_tests}
-use Rattle.std.proofs.{lemmas.List.Elements.All-from_recursion}
+use Rattle.std.proofs.{Common.◌*ℤ◌, lemmas.List.length-drop, lemmas.Bool.and_parts, lemmas.Bool.Decides.nat_tests}
+use Rattle.std.proofs.Math.Nat.{mul-div_cancel_left, mul-le-mul_left, mul-le-mul}
 use Rattle.def_flow.specs.Network.{Network, ends, arc_at, EndsBelow, IsWithinBounds, is_bounded}
+use Rattle.def_flow.specs.{declared.net.Arc.Arc, declared.net.End.End, declared.units.ArcUnit.ArcUnit}
 use Rattle.def_flow.specs.Admissible.{IsBalanced, is_on_side, side_sum, arc_deviation, entries, IsAdmissible, deviation}
 use Rattle.def_flow.specs.Units.{arcwise, down, low, cap, units_from, units, run, states, is_active, active, cost_on}
 use Rattle.def_flow.specs.Units.{unit_at, states_at, rim_active}
-use Rattle.def_flow.specs.{declared.net.Arc.Arc, declared.net.End.End, declared.units.ArcUnit.ArcUnit}
-use Rattle.def_flow.specs.{MatchingGraph.matching_graph, Gadget.lows}
 use Rattle.gadget_laws.specs.{Marks.trues, Box.IsRaised, Box.matching_told, Told.steps_told}
 use Rattle.def_matching.specs.Matching.{IsGraph, IsPerfect, matching_cost, edge_at}
-use Rattle.gadget_laws.proofs.{Whole.StatesFit, Whole.states_perfect, Whole.states_cost, Whole.rim_parity}
-use Rattle.gadget_laws.proofs.{Edges.each_append, Edges.graph_lawful, Edges.IsEdge, Edges.graph_edges, Units.UnitsAt}
-use Rattle.{std.specs.List.list_all, std.specs.List.AllByRecursion, std.specs.Prelude.unsigned_abs}
-use Rattle.{sum_laws.proofs.Sums.integers, sum_laws.proofs.Sums.count_below_prefix, def_math.specs.Sums.total}
-use Rattle.{def_math.specs.Counts.count, def_math.specs.Counts.count_below, qm_dual.proofs.Tallies.total_below_prefix}
+use Rattle.gadget_laws.proofs.Whole.{StatesFit, states_perfect, states_cost, rim_parity}
+use Rattle.gadget_laws.proofs.Edges.{each_append, graph_lawful, IsEdge, graph_edges}
+use Rattle.{std.proofs.lemmas.List.Elements.All-from_recursion, def_flow.specs.MatchingGraph.matching_graph}
+use Rattle.{def_flow.specs.Gadget.lows, gadget_laws.proofs.Units.UnitsAt, std.specs.List.list_all}
+use Rattle.{std.specs.List.AllByRecursion, std.specs.Prelude.unsigned_abs, sum_laws.proofs.Sums.integers}
+use Rattle.{sum_laws.proofs.Sums.count_below_prefix, def_math.specs.Sums.total, def_math.specs.Counts.count}
+use Rattle.{def_math.specs.Counts.count_below, qm_dual.proofs.Tallies.total_below_prefix}
 
 -- The steps down from an entry lead no lower than its floor.
 pub down_fits : (step : ℕ) (a : Arc) (x : ℕ) → down step a x * step ≤ x - a.floor
@@ -104,11 +103,10 @@ pub told_active : (net : Network) (step v : ℕ) (arcs : List Arc) (xs : List �
     (arcwise (cap step) arcs xs)
 told_active net step v (a ∷ arcs) (x ∷ xs) ons m =
     let n = cap step a x in
-    let ls = first_length net step a arcs x xs ons m in
+    let ls = first_length net _ a _ x xs _ m in
     omega (
       arith,
-      active_split v (units_from net step a (low step a x) 0 n) (units net step arcs xs) ons
-          (units_length net step a (low step a x) 0 n) ls.0,
+      active_split v _ (units net step arcs xs) ons (units_length net step a (low step a x) 0 n) ls.0,
       any_active net step v a x 0 n ons ls.0,
       told_active net step v arcs xs (drop n ons) ls.1,
     )
@@ -157,8 +155,7 @@ side_list v on _ _ l = omega integers
 -- Balanced lists have equal ends of both signs.
 pub balanced_list : (arcs : List Arc) (ys : List ℕ) → length ys ≡ length arcs → IsBalanced arcs (entries ys) → (v : ℕ)
     → weighted_ends v true arcs ys ≡ weighted_ends v false arcs ys
-balanced_list arcs ys l balanced v =
-    omega (integers, balanced v, side_list v true arcs ys l, side_list v false arcs ys l)
+balanced_list arcs ys l balanced v = omega (integers, balanced v, side_list v true _ ys l, side_list v false _ ys l)
 
 pub box_length : (step : ℕ) (arcs : List Arc) (xs js ys : List ℕ) → IsRaised step arcs xs js ys
     → length ys ≡ length arcs
@@ -193,8 +190,7 @@ same_active net step xs js ys is zs positive box other by bz v =
       balanced_list net.arcs ys (box_length step net.arcs xs js ys box) by v,
       balanced_list net.arcs zs (box_length step net.arcs xs is zs other) bz v,
     ) in
-    let equal : left ≡ right = sym (mul-div_cancel_left left positive) ∙ (ap (λ n. n / step) scaled_equal
-    ∙ mul-div_cancel_left right positive) in
+    let equal : left ≡ right = sym (mul-div_cancel_left left positive) ∙ (search (rules, mul-div_cancel_left)) in
     omega (arith, box_active net step v net.arcs xs js ys box, box_active net step v net.arcs xs is zs other, equal)
 
 -- The deviation along the list.
@@ -229,9 +225,8 @@ box_cost net step (a ∷ arcs) (x ∷ xs) (j ∷ js) (y ∷ ys) box =
     let end : low step a x + (0 + j) * step ≡ y = ap (λ n. low step a x + n * step) (zero-add j) ∙ sym box.1 in
     omega (
       integers,
-      rw (run_told j n (states step arcs xs js) box.0).1 at (cost_split (units_from net step a (low step a x) 0 n)
-          (units net step arcs xs) os (units_length net step a (low step a x) 0 n)
-          (simp (length-append, run_length) (omega arith))),
+      rw (run_told j n _ box.0).1 at (cost_split _ (units net step arcs xs) os (units_length net step a (low step a x) 0
+          n) (simp (length-append, run_length) (omega arith))),
       run_cost net step a x 0 j n (states step arcs xs js) box.0,
       ap (λ k. arc_deviation net a (pos k)) begin,
       ap (λ k. arc_deviation net a (pos k)) end,
@@ -256,9 +251,8 @@ arcs_fit nodes (a ∷ arcs) h =
 pub units_each : (P : ArcUnit → Type 0) (net : Network) (step : ℕ) → ((a : Arc) (l k : ℕ) → IsFit net.nodes a
     → P (unit_at net step a l k)) → (arcs : List Arc) (xs : List ℕ) → AllByRecursion (IsFit net.nodes) arcs
     → AllByRecursion P (units net step arcs xs)
-units_each P net step each (a ∷ arcs) (x ∷ xs) fit =
-    each_append P (units_from net step a (low step a x) 0 (cap step a x)) (units net step arcs xs)
-    (from 0 (cap step a x)) (units_each P net step each arcs xs fit.1)
+units_each P net step each (a ∷ arcs) (x ∷ xs) fit = each_append P _ _ (from 0 (cap step a x))
+    (units_each P net step each arcs xs fit.1)
   where
     from : (k n : ℕ) → AllByRecursion P (units_from net step a (low step a x) k n)
     from k zero = tt
@@ -268,15 +262,11 @@ units_each P net step each _ _ fit = tt
 -- The ends of all units are at nodes.
 pub units_at : (net : Network) (step : ℕ) (xs : List ℕ) → IsWithinBounds net
     → UnitsAt net.nodes (units net step net.arcs xs)
-units_at net step xs bounds = units_each (λ u. EndsBelow net.nodes u.left u.right) net step (λ a l k fit. fit.0)
-    net.arcs xs (arcs_fit net.nodes net.arcs bounds.arcs)
+units_at net step xs bounds = units_each _ net _ (λ a l k fit. fit.0) _ xs (arcs_fit _ _ bounds.arcs)
 
 -- The matching graph is a graph.
 pub graph_law : (net : Network) (step : ℕ) (xs : List ℕ) → IsWithinBounds net → IsGraph (matching_graph net step xs)
-graph_law net step xs bounds =
-    graph_lawful net.nodes (λ v. active v (units net step net.arcs xs) (states_at net step xs))
-    (rim_active (units net step net.arcs xs) (states_at net step xs) % 2 == 1) (units net step net.arcs xs)
-    (units_at net step xs bounds)
+graph_law net step xs bounds = graph_lawful _ _ _ _ (units_at _ _ xs bounds)
 
 -- The deviation of a list in the box is that of the lows, and the cost of the units that are on.
 pub box_deviation : (net : Network) (step : ℕ) (xs js ys : List ℕ) → length xs ≡ length net.arcs
@@ -296,21 +286,17 @@ pub matching_law : (net : Network) (step : ℕ) (xs js ys : List ℕ) → IsWith
     × (matching_cost (matching_graph net step xs) (matching_told net step xs js) ≡ pos (deviation net (entries ys)) -ℤ
     pos (deviation net (entries (lows net step xs))))
 matching_law net step xs js ys bounds positive l ax ay box =
-    let us : List ArcUnit = units net step net.arcs xs in
+    let us : List ArcUnit = units net _ _ xs in
     let m : ℕ = rim_active us (states_at net step xs) in
-    let at = units_at net step xs bounds in
-    let own = own_box step net.arcs xs l in
-    let count = states_count net step net.arcs xs js ys box in
-    let own_count = states_count net step net.arcs xs (arcwise (down step) net.arcs xs) xs own in
-    let fills = same_active net step xs js ys (arcwise (down step) net.arcs xs) xs positive box own ay.balanced
-    ax.balanced in
-    let lone : (cond (m % 2 == 1) 1 0 + m) % 2 ≡ 0 = grind (arith, cases_eq (m % 2) 1) in
-    let parity = rim_parity net.nodes (λ v. active v us (states_at net step xs)) us (states step net.arcs xs js)
-    (states_at net step xs) at count own_count fills (λ v. refl) in
+    let at = units_at _ _ xs bounds in
+    let own = own_box _ _ xs l in
+    let count = states_count net _ _ xs js ys box in
+    let own_count = states_count net _ _ xs _ xs own in
+    let fills = same_active net _ xs js ys _ xs positive box own ay.balanced ax.balanced in
+    let parity = rim_parity _ _ us _ _ at count own_count fills (λ v. refl) in
     let fit : StatesFit net.nodes (λ v. active v us (states_at net step xs)) (m % 2 == 1) us
-    (states step net.arcs xs js) =
-    record { count = count; at_nodes = at; fills = fills; even = omega (arith, lone, parity) } in
-    (states_perfect fit, states_cost fit ∙ box_deviation net step xs js ys l box)
+    (states step net.arcs xs js) = search rules in
+    (states_perfect fit, states_cost fit ∙ box_deviation net _ xs js ys l box)
 
 -- A length more by d changes the deviation by at most the weight and the scale times d.
 deviation_change : (net : Network) (a : Arc) (l d : ℕ) → net.q ≤ 1000 → a.weight ≤ 1000
@@ -330,13 +316,10 @@ pub costs : (net : Network) (step : ℕ) (xs : List ℕ) → IsWithinBounds net 
     → k < length (matching_graph net step xs).edges → unsigned_abs (edge_at (matching_graph net step xs) k).cost
     ≤ 1000 * (1000 * step)
 costs net step xs bounds k l =
-    let us : List ArcUnit = units net step net.arcs xs in
+    let us : List ArcUnit = units net _ _ xs in
     let Cheap : ℤ → Type 0 = λ c. unsigned_abs c ≤ 1000 * (1000 * step) in
-    let cheap : AllByRecursion (λ u. Cheap u.cost) us = units_each (λ u. Cheap u.cost) net step (λ a m j fit.
+    let cheap : AllByRecursion (λ u. Cheap u.cost) us = units_each _ net _ (λ a m j fit.
     (let next : m + (j + 1) * step ≡ m + j * step + step = omega (arith, add-mul j 1 step) in
-    rw next (deviation_change net a (m + j * step) step bounds.q_high fit.1)))
-    net.arcs xs (arcs_fit net.nodes net.arcs bounds.arcs) in
-    (All-from_recursion (IsEdge (λ v. Unit {0}) Cheap) (matching_graph net step xs).edges
-    (graph_edges (λ v. Unit {0}) Cheap (omega arith) net.nodes (λ v. active v us (states_at net step xs))
-    (rim_active us (states_at net step xs) % 2 == 1) us (units_at net step xs bounds) (λ v h. tt)
-    (All-from_recursion (λ u. Cheap u.cost) us cheap)) k _ l).3
+    rw next (deviation_change net a _ _ bounds.q_high fit.1))) _ xs (arcs_fit _ _ bounds.arcs) in
+    (All-from_recursion (IsEdge (λ v. Unit {0}) Cheap) _ (graph_edges _ _ (omega arith) _ _ _ us
+    (units_at _ _ xs bounds) (λ v h. tt) (All-from_recursion _ us cheap)) k _ l).3

@@ -4,9 +4,8 @@ use Rattle.std.proofs.Common.{◌++◌, length, Option, Some, None, ℤ, pos, re
 use Rattle.std.proofs.{lemmas.Bool.cases_eq, lemmas.List.Elements.All-from_recursion}
 use Rattle.def_math.specs.Counts.{count, count_below}
 use Rattle.def_matching.specs.{Matching.IsGraph, declared.weighted.WEdge.WEdge}
-use Rattle.def_flow.specs.MatchingGraph.{fan, to_copies, inner_link, links_by, size_by, unit_links, unit_size}
-use Rattle.def_flow.specs.MatchingGraph.{units_links, with_rim, rim, link_from, rung, rim_links, first_fresh}
-use Rattle.def_flow.specs.MatchingGraph.{lone_vertex, graph_by}
+use Rattle.def_flow.specs.MatchingGraph.{fan, links_by, size_by, unit_links, unit_size, units_links}
+use Rattle.def_flow.specs.MatchingGraph.{with_rim, rim, rim_links, first_fresh, lone_vertex, graph_by}
 use Rattle.def_flow.specs.{Network.EndsBelow, declared.net.End.End, declared.units.ArcUnit.ArcUnit}
 use Rattle.gadget_laws.proofs.{Pick.picked, Pick.at_ends, Pick.pairs, Units.UnitsAt}
 use Rattle.{std.specs.List.All, std.specs.List.AllByRecursion, sum_laws.proofs.Sums.integers}
@@ -81,20 +80,13 @@ module _ (V : ℕ → Type 0) (Q : ℤ → Type 0) (free : Q (pos 0)) where
   fan_edges u c a (suc n) at paid le below =
       search (rules, fan_edges u c (a + 1) n at paid (omega arith) (λ k l. below k (omega arith)))
 
-  inner_edge : (b : ℕ) (c : ℤ) (e : End) → V b → V (b + 1) → Q c → AreEdges V Q (inner_link b c e ∷ [])
-  inner_edge b c e one two paid = search rules
-
   -- The edges of units, whose own vertices are past the copies.
   module _ (nodes : ℕ) (copies_at : ℕ → ℕ) (copies : (k : ℕ) → k < count_below copies_at nodes → V k) where
-    copies_edges : (b : ℕ) (c : ℤ) (e : End) → e.node < nodes → count_below copies_at nodes ≤ b → V b → Q c
-        → AreEdges V Q (to_copies copies_at b c e)
-    copies_edges b c e l le at paid = search (rules, copies_below, fan_edges)
-
     pub unit_edges : (b : ℕ) (c : ℤ) (left : End) (right : Option End) → EndsBelow nodes left right
         → count_below copies_at nodes ≤ b → ((k : ℕ) → b ≤ k → k < b + size_by left right → V k) → Q c
         → AreEdges V Q (links_by copies_at b c left right)
-    unit_edges b c left None at le own paid = search (rules, each_append, copies_edges)
-    unit_edges b c left (Some right) at le own paid = search (rules, copies_edges, each_append)
+    unit_edges b c left None at le own paid = search (rules, each_append, copies_below, fan_edges)
+    unit_edges b c left (Some right) at le own paid = search (rules, copies_below, fan_edges, each_append)
 
     pub units_edges : (b : ℕ) (us : List ArcUnit) → UnitsAt nodes us → count_below copies_at nodes ≤ b → ((k : ℕ) → b
         ≤ k → k < b + count unit_size us → V k) → All (λ u. Q u.cost) us → AreEdges V Q (units_links copies_at b us)
@@ -106,26 +98,15 @@ module _ (V : ℕ → Type 0) (Q : ℤ → Type 0) (free : Q (pos 0)) where
 
   -- The edges at the rim: its vertices are below m, and from there on are those that it has alone.
   module _ (m n : ℕ) (high : (k : ℕ) → m ≤ k → k < n → V k) where
-    from_edges : (fresh v : ℕ) (before : Option ℕ) → IsPast m fresh before → fresh ≤ n → V v
-        → ((b : ℕ) → m ≤ b → b < fresh → b ≢ v) → AreEdges V Q (link_from before v)
-    from_edges fresh v None past le at apart = tt
-    from_edges fresh v (Some b) past le at apart = ((high b past.0 (omega arith), at, apart b past.0 past.1, free), tt)
-
     rim_edges : (fresh : ℕ) (before : Option ℕ) (rs : List ℕ) → AllByRecursion (λ r. r < m) rs → AllByRecursion V rs
         → m ≤ fresh → IsPast m fresh before → fresh + pairs (length rs) ≤ n → AreEdges V Q (rim_links before fresh rs)
     rim_edges fresh before [] below at le past lt = tt
     rim_edges fresh before (r ∷ []) below at le past lt = search rules
-    rim_edges fresh before (r ∷ s ∷ rs) below at le past lt =
-        let one : V fresh = high fresh le (omega arith) in
-        let two : V (fresh + 1) = high (fresh + 1) (omega arith) (omega arith) in
-        each_append (IsEdge V Q) (rung before fresh r) _ (each_append (IsEdge V Q) (link_from before r) _
-        (from_edges fresh r before past (omega arith) at.0 (λ b l h e. omega (arith, below.0))) (
-          (at.0, one, λ e. omega (arith, below.0), free),
-          each_append (IsEdge V Q) (link_from before fresh) _ (from_edges fresh fresh before past (omega arith) one
-              (λ b l h e. omega arith)) ((one, two, λ e. omega arith, free), tt),
-        ))
-        (rim_edges (fresh + 2) (Some (fresh + 1)) (s ∷ rs) below.1 at.1 (omega arith) (omega arith, omega arith)
-        (omega arith))
+    rim_edges fresh before (r ∷ s ∷ rs) below at le past lt = search (
+      rules,
+      rim_edges (fresh + 2) (Some (fresh + 1)) (s ∷ rs) below.1 at.1 (omega arith)
+          (omega arith, omega arith) (omega arith),
+    )
 
   module _ (nodes : ℕ) (copies_at : ℕ → ℕ) (lone : Bool) (us : List ArcUnit) where
     -- The edges past those of the units.
@@ -134,21 +115,17 @@ module _ (V : ℕ → Type 0) (Q : ℤ → Type 0) (free : Q (pos 0)) where
         → V k) → AreEdges V Q (rim_links (lone_vertex nodes copies_at lone us) (first_fresh nodes copies_at lone us)
         (rim (count_below copies_at nodes) us))
     rest_edges at high =
-        let inner = count_below copies_at nodes + count unit_size us in
+        let inner = count_below copies_at nodes + count _ us in
         let past : (o : Bool) → IsPast inner (inner + cond o 1 0) (cond o (Some inner) None) =
         elim [ true ↦ (omega arith, omega arith) | false ↦ tt ] in
-        rim_edges inner (graph_by nodes copies_at lone us).n high (first_fresh nodes copies_at lone us)
-        (lone_vertex nodes copies_at lone us) (rim (count_below copies_at nodes) us)
-        (rim_each (λ r. r < inner) (count_below copies_at nodes) us (λ k l h. h)) at (omega arith) (past lone)
-        (omega arith)
+        rim_edges _ _ high (first_fresh nodes copies_at lone us) (lone_vertex nodes copies_at lone us) (rim _ us)
+        (search (rules, rim_each)) at (omega arith) (past lone) (omega arith)
 
     -- All edges.
     pub graph_edges : UnitsAt nodes us → ((k : ℕ) → k < (graph_by nodes copies_at lone us).n → V k)
         → All (λ u. Q u.cost) us → AreEdges V Q (graph_by nodes copies_at lone us).edges
-    graph_edges at all paid = each_append (IsEdge V Q) (units_links copies_at (count_below copies_at nodes) us) _
-        (units_edges nodes copies_at (λ k l. all k (omega arith)) (count_below copies_at nodes) us at (omega arith)
-        (λ k l h. all k (omega arith)) paid)
-        (rest_edges (rim_each V (count_below copies_at nodes) us (λ k l h. all k (omega arith))) (λ k l h. all k h))
+    graph_edges at all paid = each_append _ _ _ (search (rules, units_edges))
+        (rest_edges (rim_each V _ us (λ k l h. all k (omega arith))) (λ k l h. all k h))
 
 -- The edges at the rim are free.
 pub rest_free : (nodes : ℕ) (copies_at : ℕ → ℕ) (lone : Bool) (us : List ArcUnit) → AreFree (rim_links
@@ -160,6 +137,5 @@ pub graph_lawful : (nodes : ℕ) (copies_at : ℕ → ℕ) (lone : Bool) (us : L
     → IsGraph (graph_by nodes copies_at lone us)
 graph_lawful nodes copies_at lone us at =
     let n = (graph_by nodes copies_at lone us).n in
-    let each = All-from_recursion (IsEdge (λ v. v < n) (λ c. Unit {0})) _ (graph_edges (λ v. v < n) (λ c. Unit {0}) tt
-    nodes copies_at lone us at (λ k l. l) (λ k d l. tt)) in
+    let each = All-from_recursion (IsEdge (λ v. v < n) (λ c. Unit {0})) _ (search (rules, graph_edges)) in
     record { left = λ k l. (each k _ l).0; right = λ k l. (each k _ l).1; apart = λ k l. (each k _ l).2 }

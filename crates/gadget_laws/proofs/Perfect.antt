@@ -1,26 +1,24 @@
 -- A perfect matching tells states of the units that fill the copies, at its own cost.
 use Rattle.std.proofs.Common.{rules, ◌≡◌, ◌≢◌, ℕ, zero, suc, ◌+◌, ◌*◌, ◌<◌, ◌≤◌, min, Bool, cond, not, ◌&&◌, ◌==◌}
 use Rattle.std.proofs.Common.{nat_lt, List, [], ◌∷◌, length, map, drop, Option, Some, None, option_to_list, ℤ, pos}
-use Rattle.std.proofs.Common.{◌+ℤ◌, ◌-ℤ◌, ◌*ℤ◌, refl, subst, sym, ◌∙◌, ap, inl, inr, ◌⊎◌, zero-add, eq-eqb, ne_eqb}
-use Rattle.std.proofs.Common.{arith}
-use Rattle.std.proofs.lemmas.Bool.{cases_eq, cases_lt, cases_Bool, cond_both}
+use Rattle.std.proofs.Common.{◌+ℤ◌, ◌-ℤ◌, ◌*ℤ◌, refl, subst, sym, ◌∙◌, ap, inl, inr, zero-add, eq-eqb, ne_eqb}
+use Rattle.std.proofs.lemmas.Bool.{cases_eq, cases_lt, cases_Bool}
 use Rattle.def_math.specs.{Sums.total, Sums.total_below, Counts.count, Counts.count_below, Increasing.IsIncreasing}
-use Rattle.sum_laws.proofs.Sums.{total_below_minus, integers}
-use Rattle.def_matching.specs.{Matching.WeightedGraph, Matching.IsPerfect, Matching.edge_at, Matching.matching_cost}
-use Rattle.def_matching.specs.{declared.weighted.WEdge.WEdge}
+use Rattle.def_matching.specs.Matching.{WeightedGraph, IsPerfect, edge_at, matching_cost}
 use Rattle.def_flow.specs.MatchingGraph.{are_alike, links_by, size_by, unit_links, unit_size, units_links, rim}
 use Rattle.def_flow.specs.MatchingGraph.{rim_links, first_fresh, lone_vertex, graph_by}
-use Rattle.def_flow.specs.{Network.EndsBelow, Units.is_active, Units.active, Units.cost_on, declared.net.End.End}
-use Rattle.def_flow.specs.{declared.units.ArcUnit.ArcUnit}
-use Rattle.gadget_laws.specs.{Marks.places, Told.past, Told.marks_from, Told.width_by, Told.state_told}
-use Rattle.gadget_laws.specs.{Told.states_told}
+use Rattle.def_flow.specs.{Network.EndsBelow, declared.net.End.End, declared.units.ArcUnit.ArcUnit}
+use Rattle.def_flow.specs.Units.{is_active, active, cost_on}
+use Rattle.gadget_laws.specs.Told.{past, marks_from, width_by, state_told, states_told}
 use Rattle.gadget_laws.proofs.Pick.{picked, chosen_sum, at_ends, pick_split, pick_units, no_pick, left_marks}
 use Rattle.gadget_laws.proofs.Pick.{right_marks, inner_mark, right_worth, unit_pick}
-use Rattle.gadget_laws.proofs.Edges.{copies_below, size_low, with_each, rim_each, picked_zero, picked_free, unit_edges}
+use Rattle.gadget_laws.proofs.Edges.{copies_below, with_each, rim_each, picked_zero, picked_free, unit_edges}
 use Rattle.gadget_laws.proofs.Edges.{units_edges, rest_edges, rest_free, graph_lawful}
-use Rattle.gadget_laws.proofs.{Units.ends_active, Units.alike_active, Units.unlike_active, Units.UnitsAt, Whole.only}
-use Rattle.gadget_laws.proofs.{Whole.only_here, Whole.only_there, Whole.only_total}
-use Rattle.{std.specs.List.AllByRecursion, qm_dual.proofs.Gathered.ends_once, qm_dual.proofs.Weak.chosen_below}
+use Rattle.gadget_laws.proofs.Whole.{only, only_here, only_there, only_total}
+use Rattle.{std.proofs.Common.arith, sum_laws.proofs.Sums.total_below_minus, sum_laws.proofs.Sums.integers}
+use Rattle.{def_matching.specs.declared.weighted.WEdge.WEdge, gadget_laws.specs.Marks.places}
+use Rattle.{gadget_laws.proofs.Units.ends_active, gadget_laws.proofs.Units.UnitsAt, std.specs.List.AllByRecursion}
+use Rattle.{qm_dual.proofs.Gathered.ends_once, qm_dual.proofs.Weak.chosen_below}
 
 -- Whether the inner edge is marked of a unit in this state.
 abbrev inner_told : (on : Bool) (left : End) (right : Option End) → Bool
@@ -39,18 +37,10 @@ AreTold copies_at [] ms = Unit {0}
 AreTold copies_at (u ∷ us) ms =
     IsTold copies_at ms u.left u.right × AreTold copies_at us (drop (width_by copies_at u.left u.right) ms)
 
-left_told : (copies_at : ℕ → ℕ) (ms : List Bool) (left : End) → left_marks copies_at ms left ≤ 1
-    → left_marks copies_at ms left ≡ cond (is_active (state_told copies_at ms left) left) 1 0
-left_told copies_at ms left le = search rules
-
--- Of a number and a mark that are 1 together, the mark is the rest.
-mark_rest : (m a : Bool) (n : ℕ) → n ≡ cond a 1 0 → n + cond m 1 0 ≡ 1 → m ≡ not a
-mark_rest m a n e s = grind (arith)
-
 -- What marks that weigh 1 together are, by what the edges of each end weigh.
 mates : (l r a c : ℕ) (i : Bool) (t : ℤ) {p x : ℤ} → p ≡ pos a → t ≡ pos c → x ≡ pos 1
     → pos l *ℤ p +ℤ (pos r *ℤ t +ℤ cond i x (pos 0)) ≡ pos 1 → l * a + (r * c + cond i 1 0) ≡ 1
-mates l r a c i t ep et ex e = let h = rw (ep, et, ex) at e in grind (integers, h)
+mates l r a c i t ep et ex e = grind (integers)
 
 -- The inner edge of a unit weighs 1 where one of its ends does and the other weighs nothing.
 inner_one : (b : ℕ) → (only b b +ℤ only b (b + 1) ≡ pos 1) × (only (b + 1) b +ℤ only (b + 1) (b + 1) ≡ pos 1)
@@ -63,13 +53,9 @@ module _ (n nodes : ℕ) (copies_at : ℕ → ℕ) (m : ℕ) (within : m ≤ n) 
       → only d b +ℤ only d (b + 1) ≡ pos 1 → picked (at_ends (only d)) ms (links_by copies_at b c left right) ≡ pos 1
       → left_marks copies_at ms left * p + (right_marks copies_at ms left right * t
       + cond (inner_mark copies_at ms left right) 1 0) ≡ 1
-  weigh b d c left right ms p t at le first second inner one =
-      mates (left_marks copies_at ms left) (right_marks copies_at ms left right) p t
-      (inner_mark copies_at ms left right) (right_worth (λ u z e. only d u) b c left right) first second inner
-      (sym (unit_pick (at_ends (only d)) nodes copies_at (λ u z e. only d u) (λ u z e l i li.
-      (let end = copies_below copies_at e.node nodes l in
-      omega (integers, only_there d (count_below copies_at e.node + i) (λ q. omega arith)))) b c left right ms at)
-      ∙ one)
+  weigh b d c left right ms p t at le first second inner one = mates _ _ p t _ _ first second inner
+      (sym (unit_pick _ _ copies_at (λ u z e. only d u) (λ u z e l i li. search (rules, copies_below, only_there)) b c _
+      _ ms at) ∙ one)
 
   -- Where each own vertex of a unit has one mate, its marks are those of a state.
   unit_told : (b : ℕ) (c : ℤ) (left : End) (right : Option End) (ms : List Bool) → EndsBelow nodes left right
@@ -79,36 +65,21 @@ module _ (n nodes : ℕ) (copies_at : ℕ → ℕ) (m : ℕ) (within : m ≤ n) 
   unit_told b c left None ms at le one two =
       let l = left_marks copies_at ms left in
       let i = inner_mark copies_at ms left None in
-      let mate = weigh b b c left None ms 1 0 at le (only_here b) refl (inner_one b).0 one in search rules
+      let mate = weigh b b c _ None ms 1 0 at le (only_here b) refl (inner_one b).0 one in search rules
   unit_told b c left (Some right) ms at le one two =
       let l = left_marks copies_at ms left in
-      let r = right_marks copies_at ms left (Some right) in
       let i = inner_mark copies_at ms left (Some right) in
       let on = state_told copies_at ms left in
-      let active : End → ℕ = λ (e : End). cond (is_active on e) 1 0 in
       elim (cases_Bool (are_alike left right)) [
         | inl e ↦
-            let mate = weigh b b c left (Some right) ms 1 0 at le (only_here b)
-            (rw e (only_there b (b + 1) (λ q. omega arith))) (inner_one b).0 one in
-            let other = weigh b (b + 1) c left (Some right) ms 0 1 at (omega arith)
-            (only_there (b + 1) b (λ q. omega arith)) (rw e (only_here (b + 1))) (inner_one b).1
-            (two (rw e refl) (λ q. cc)) in
-            let sum : l + cond i 1 0 ≡ 1 = omega (arith, mate) in
-            let first = left_told copies_at ms left (omega (arith, sum)) in
-            let same : active left ≡ active right = ap (λ a. cond a 1 0) (alike_active on left right e) in record {
-              first = first;
-              second = omega (arith, first, sum, other, same);
-              inner = mark_rest i (is_active on left) l first sum ∙ rw e refl;
-            }
+            let mate = weigh b b c _ (Some right) ms 1 0 at le (only_here b)
+            (rw e (only_there b _ (λ q. omega arith))) (inner_one b).0 one in
+            let other = weigh b _ c _ (Some right) ms 0 1 at (omega arith) (only_there _ b (λ q. omega arith))
+            (rw e (only_here _)) (inner_one b).1 (two (rw e refl) (λ q. cc)) in
+            search rules
         | inr e ↦
-            let none : ◌≡◌ {A = ℕ} (cond i 1 0) 0 = rw e refl in
-            let mate = weigh b b c left (Some right) ms 1 1 at le (only_here b) (rw e (only_here b)) (inner_one b).0
-            one in
-            let sum : l + r ≡ 1 = omega (arith, none, mate) in
-            let first = left_told copies_at ms left (omega (arith, sum)) in
-            let other : ◌≡◌ {A = ℕ} (active left) (cond (not (is_active on right)) 1 0) =
-            ap (λ a. cond a 1 0) (unlike_active on left right e) in
-            record { first = first; second = grind (arith, first, other, sum); inner = rw e refl }
+            let mate = weigh b b c _ (Some right) ms 1 1 at le (only_here b) (rw e (only_here b)) (inner_one b).0 one in
+            search rules
       ]
 
   -- For each weight of nothing below b, at the rim and from m on, the edges of the units from b on weigh what all
@@ -125,10 +96,9 @@ module _ (n nodes : ℕ) (copies_at : ℕ → ℕ) (m : ℕ) (within : m ≤ n) 
       let off = only_there d in
       omega (
         integers,
-        full (only d) (λ k l. off k (λ e. omega arith)) (with_each (λ r. only d r ≡ pos 0) u.right (b + 1)
-            (rim (b + unit_size u) us) (λ none. off (b + 1) (λ e. inside none (sym e)))
-            (rim_each (λ r. only d r ≡ pos 0) (b + unit_size u) us (λ k l h. off k (λ e. omega arith)))) (λ k l. off k
-            (λ e. omega arith)),
+        full (only d) (λ k l. off k (λ e. omega arith))
+            (with_each _ _ _ _ (λ none. off (b + 1) (λ e. inside none (sym e)))
+            (rim_each _ _ us (λ k l h. off k (λ e. omega arith)))) (λ k l. off k (λ e. omega arith)),
         pick_units (at_ends (only d)) copies_at b u us ms,
         picked_zero (only d) (drop (width_by copies_at u.left u.right) ms) (units_links copies_at (b + unit_size u) us)
             (units_edges (λ k. only d k ≡ pos 0) (λ c. Unit {0}) tt nodes copies_at (λ k l. off k (λ e. omega arith))
@@ -141,18 +111,19 @@ module _ (n nodes : ℕ) (copies_at : ℕ → ℕ) (m : ℕ) (within : m ≤ n) 
       → b + count unit_size us ≤ m → IsFull b us ms → AreTold copies_at us ms
   units_told b [] ms at le fits full = tt
   units_told b (u ∷ us) ms at le fits full = (
-    unit_told b u.cost u.left u.right ms at.0 le (first_unit b b u us ms at.1 le (omega arith)
-        (omega (arith, size_low u.left u.right)) fits (λ none e. omega arith) full) (λ two some. first_unit b
-        (b + 1) u us ms at.1 le (omega arith) (omega (arith, two)) fits (λ none. absurd (some none)) full),
-    units_told (b + unit_size u) us (drop (width_by copies_at u.left u.right) ms) at.1 (omega arith) (omega arith)
-        (λ w low nil high. omega (
-          integers,
-          full w (λ k l. low k (omega arith)) (with_each (λ r. w r ≡ pos 0) u.right (b + 1) (rim (b + unit_size u) us)
-              (λ none. low (b + 1) (rw none (omega arith))) nil) high,
-          pick_units (at_ends w) copies_at b u us ms,
-          picked_zero w ms (unit_links copies_at b u) (unit_edges (λ k. w k ≡ pos 0) (λ c. Unit {0}) tt nodes copies_at
-              (λ k l. low k (omega arith)) b u.cost u.left u.right at.0 le (λ k l h. low k h) tt),
-        )),
+    unit_told b u.cost u.left u.right ms at.0 le (search (rules, first_unit)) (search (rules, first_unit)),
+    search (
+      rules,
+      units_told (b + unit_size u) us (drop (width_by copies_at u.left u.right) ms) at.1 (omega arith)
+          (omega arith) (λ w low nil high. omega (
+            integers,
+            full w (λ k l. low k (omega arith)) (with_each (λ r. w r ≡ pos 0) u.right (b + 1) (rim (b + unit_size u) us)
+                (λ none. low (b + 1) (rw none (omega arith))) nil) high,
+            pick_units (at_ends w) copies_at b u us ms,
+            picked_zero w ms (unit_links copies_at b u) (unit_edges (λ k. w k ≡ pos 0) (λ c. Unit {0}) tt nodes
+                copies_at (λ k l. low k (omega arith)) b u.cost u.left u.right at.0 le (λ k l h. low k h) tt),
+          )),
+    ),
   )
 
 marks_length : (k n : ℕ) (m : List ℕ) → length (marks_from k n m) ≡ n
@@ -183,14 +154,6 @@ at_copies copies_at v k = pos (cond (nat_lt k (count_below copies_at v + copies_
 less_total : (a n : ℕ) → total_below (λ k. pos (cond (nat_lt k a) 1 0)) n ≡ pos (min n a)
 less_total a zero = omega integers
 less_total a (suc n) = grind (integers, cases_lt n a, less_total a n)
-
-outside : (copies_at : ℕ → ℕ) (v k : ℕ)
-    → (k < count_below copies_at v) ⊎ (count_below copies_at v + copies_at v ≤ k) → at_copies copies_at v k ≡ pos 0
-outside copies_at v k apart = search rules
-
-copy_weight : (copies_at : ℕ → ℕ) (v u i : ℕ) → i < copies_at u → at_copies copies_at v (count_below copies_at u + i)
-    ≡ pos (cond (u == v) 1 0)
-copy_weight copies_at v u i l = search (rules, copies_below)
 
 -- So many marks, each worth 1 or nothing.
 marked : (n : ℕ) (x : ℤ) (h a : Bool) → n ≡ cond a 1 0 → x ≡ pos (cond h 1 0) → pos n *ℤ x ≡ pos (cond (h && a) 1 0)
@@ -223,9 +186,7 @@ module _ (nodes : ℕ) (copies_at : ℕ → ℕ) (v : ℕ) (w : ℕ → ℤ) (co
     marked (left_marks copies_at ms left) (hit b c left) (left.node == v)
         (is_active (state_told copies_at ms left) left) told.first (omega (integers, one)),
     marked (right_marks copies_at ms left (Some right)) (right_worth hit b c left (Some right)) (right.node == v)
-        (is_active (state_told copies_at ms left) right) (omega (arith, told.second))
-        (cond_both (are_alike left right) (hit (b + 1) (pos 0) right) (hit b c right)
-        (λ x. x ≡ pos (cond (right.node == v) 1 0)) (λ e. omega (integers, two)) (λ e. omega (integers, one))),
+        (is_active (state_told copies_at ms left) right) (omega (arith, told.second)) (search rules),
     inner_none (inner_mark copies_at ms left (Some right)) (w b +ℤ w (b + 1)) (omega (integers, one, two)),
   )
 
@@ -258,15 +219,11 @@ unit_cost_told : (nodes : ℕ) (copies_at : ℕ → ℕ) (b : ℕ) (c : ℤ) (le
     → picked (λ e. e.cost) ms (links_by copies_at b c left right) ≡ cond (state_told copies_at ms left) c (pos 0)
 unit_cost_told nodes copies_at b c left None ms at told = omega (
   integers,
-  unit_pick (λ e. e.cost) nodes copies_at (λ u d e. cond e.plus d (pos 0)) (λ u d e l i li. refl) b c left None ms at,
-  lone_cost (left_marks copies_at ms left) (inner_mark copies_at ms left None) c left.plus
-      (state_told copies_at ms left) told.first told.inner,
+  unit_pick (λ e. e.cost) _ copies_at _ (λ u d e l i li. refl) b c left None ms at,
+  lone_cost _ _ c left.plus _ told.first told.inner,
 )
-unit_cost_told nodes copies_at b c left (Some right) ms at told =
-    unit_pick (λ e. e.cost) nodes copies_at (λ u d e. cond e.plus d (pos 0)) (λ u d e l i li. refl) b c left
-    (Some right) ms at ∙ pair_cost (left_marks copies_at ms left) (right_marks copies_at ms left (Some right))
-    (inner_mark copies_at ms left (Some right)) c left.plus right.plus (state_told copies_at ms left) told.first
-    (omega (arith, told.second)) told.inner
+unit_cost_told nodes copies_at b c left (Some right) ms at told = unit_pick _ _ copies_at _ (λ u d e l i li. refl) b c _
+    (Some right) ms at ∙ pair_cost _ _ _ c _ _ _ told.first (omega (arith, told.second)) told.inner
 
 units_cost_told : (nodes : ℕ) (copies_at : ℕ → ℕ) (b : ℕ) (us : List ArcUnit) (ms : List Bool) → UnitsAt nodes us
     → AreTold copies_at us ms → picked (λ e. e.cost) ms (units_links copies_at b us)
@@ -316,10 +273,8 @@ module _ (nodes : ℕ) (copies_at : ℕ → ℕ) (lone : Bool) (us : List ArcUni
   ends_weight w nil high = omega (
     integers,
     matched (at_ends w),
-    ends_once (λ (e : WEdge). e.u) (λ (e : WEdge). e.v) w g.n (map (edge_at g) m)
-        (chosen_below g (graph_lawful nodes copies_at lone us at) 0 m perfect.increasing) perfect.once,
-    picked_zero w rms rest
-        (rest_edges (λ k. w k ≡ pos 0) (λ c. Unit {0}) tt nodes copies_at lone us nil (λ k l h. high k l)),
+    ends_once _ _ w _ _ (chosen_below g (graph_lawful _ _ _ us at) 0 m perfect.increasing) perfect.once,
+    picked_zero w rms rest (rest_edges _ _ tt _ _ _ us nil (λ k l h. high k l)),
   )
 
   all_told : AreTold copies_at us ms
@@ -329,14 +284,12 @@ module _ (nodes : ℕ) (copies_at : ℕ → ℕ) (lone : Bool) (us : List ArcUni
   -- The states that it tells fill the copies.
   pub told_fills : (v : ℕ) → v < nodes → active v us (states_told copies_at us ms) ≡ copies_at v
   told_fills v l =
-      let none : (k : ℕ) → copies ≤ k → at_copies copies_at v k ≡ pos 0 =
-      λ k le. outside copies_at v k (inr (omega (arith, copies_below copies_at v nodes l))) in
+      let none : (k : ℕ) → copies ≤ k → at_copies copies_at v k ≡ pos 0 = search (rules, copies_below) in
       omega (
         integers,
-        units_copies nodes copies_at v (at_copies copies_at v) (copy_weight copies_at v) copies us ms at none all_told,
-        ends_weight (at_copies copies_at v) (rim_each (λ r. at_copies copies_at v r ≡ pos 0) copies us
-            (λ k lk h. none k (omega arith))) (λ k lk. none k (omega arith)),
-        copies_below copies_at v nodes l,
+        units_copies _ _ v (at_copies copies_at v) (search (rules, copies_below)) copies us ms at none all_told,
+        ends_weight _ (rim_each _ _ us (λ k lk h. none k (omega arith))) (λ k lk. none k (omega arith)),
+        copies_below copies_at v _ l,
         total_below_minus (λ k. pos (cond (nat_lt k (count_below copies_at v + copies_at v)) 1 0))
             (λ k. pos (cond (nat_lt k (count_below copies_at v)) 1 0)) g.n,
         less_total (count_below copies_at v + copies_at v) g.n,

@@ -3,14 +3,13 @@
 use Rattle.std.proofs.Common.{rules, ◌≡◌, ℕ, zero, suc, ◌+◌, ◌<◌, ◌≤◌, Bool, true, false, cond, List, [], ◌∷◌, ◌++◌}
 use Rattle.std.proofs.Common.{length, map, get_or, ℤ, pos, ◌+ℤ◌, refl, ◌∙◌, ap, add-zero, zero-add, arith, ◌-◌, ◌*◌}
 use Rattle.std.proofs.Common.{◌%◌, Option, Some, None, true≢false, ◌&&◌, take, drop, ◌*ℤ◌, inl, inr, length-append}
-use Rattle.{std.proofs.lemmas.Bool.cases_Bool, sum_laws.proofs.Sums.integers, qm_dual.proofs.Gathered.plus_times}
 use Rattle.def_flow.specs.MatchingGraph.{link, fan, to_copies, rim_links, inner_link, are_alike, links_by, unit_links}
-use Rattle.def_flow.specs.MatchingGraph.{unit_size, units_links}
-use Rattle.def_flow.specs.{declared.net.End.End, Network.EndsBelow, declared.units.ArcUnit.ArcUnit}
-use Rattle.gadget_laws.specs.{Marks.choice, Marks.places, Marks.end_marks, Marks.trues, Marks.differ, Marks.rim_marks}
-use Rattle.gadget_laws.specs.{Told.width_by}
+use Rattle.def_flow.specs.{MatchingGraph.unit_size, MatchingGraph.units_links, declared.net.End.End, Network.EndsBelow}
+use Rattle.gadget_laws.specs.Marks.{choice, places, end_marks, trues, differ, rim_marks}
 use Rattle.def_math.specs.{Sums.total, Sums.span, Increasing.IsIncreasing, Counts.count_below}
 use Rattle.def_matching.specs.{Matching.WeightedGraph, Matching.edge_at, declared.weighted.WEdge.WEdge}
+use Rattle.{std.proofs.lemmas.Bool.cases_Bool, sum_laws.proofs.Sums.integers, qm_dual.proofs.Gathered.plus_times}
+use Rattle.{def_flow.specs.declared.units.ArcUnit.ArcUnit, gadget_laws.specs.Told.width_by}
 
 -- The sum of f over what is marked.
 abbrev pub picked : {X : Type 0} → (X → ℤ) → List Bool → List X → ℤ
@@ -84,8 +83,7 @@ at_places h d f k _ _ l same = omega integers
 
 pub chosen_sum : (g : WeightedGraph) (f : WEdge → ℤ) (ms : List Bool) → length ms ≡ length g.edges
     → total f (map (edge_at g) (places 0 ms)) ≡ picked f ms g.edges
-chosen_sum g f ms l = at_places (edge_at g) (record { u = 0; v = 0; cost = pos 0 }) f 0 ms g.edges l
-    (λ j. ap (edge_at g) (zero-add j))
+chosen_sum g f ms l = at_places _ _ f 0 ms _ l (λ j. ap (edge_at g) (zero-add j))
 
 -- What an edge weighs: the weights of its ends.
 abbrev pub at_ends : (ℕ → ℤ) → WEdge → ℤ
@@ -107,8 +105,7 @@ waiting w (Some b) waits = cond waits (w b) (pos 0)
 -- Two fresh vertices more.
 two_more : (w : ℕ → ℤ) (fresh n : ℕ) → span w fresh (pairs (suc (suc n)))
     ≡ w fresh +ℤ (w (fresh + 1) +ℤ span w (fresh + 2) (pairs (suc n)))
-two_more w fresh n =
-    let more : pairs (suc (suc n)) ≡ suc (suc (pairs (suc n))) = omega arith in search rules
+two_more w fresh n = let more : pairs (suc (suc n)) ≡ suc (suc (pairs (suc n))) = omega arith in search rules
 
 still_even : (a b : Bool) (n : ℕ) → (cond a 1 0 + (cond b 1 0 + n)) % 2 ≡ 0 → (cond (differ a b) 1 0 + n) % 2 ≡ 0
 still_even true true n even = omega arith
@@ -254,7 +251,6 @@ module _ (f : WEdge → ℤ) (nodes : ℕ) (copies_at : ℕ → ℕ) (s : ℕ �
         | inr e ↦ rw e (omega (
           integers,
           end_pick b c left ms (to_copies copies_at b c right) at.0,
-          fan_pick f past b (cond right.plus c (pos 0)) (count_below copies_at right.node) (copies_at right.node)
-              (s b c right) (worth b c right at.1),
+          fan_pick f past b _ _ _ _ (worth b c right at.1),
         ))
       ]

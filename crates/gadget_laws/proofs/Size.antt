@@ -6,15 +6,14 @@ use Rattle.std.proofs.Common.{mul-le-mul_right, length-append, eq-eqb, ne_eqb, a
 use Rattle.std.proofs.{lemmas.Bool.cases_eq, lemmas.List.Elements.All-from_recursion}
 use Rattle.sum_laws.proofs.Sums.{integers, count_append, count_below_sum, count_below_le, count_below_same}
 use Rattle.sum_laws.proofs.Sums.{count_below_one, count_below_none, count_below_times}
-use Rattle.{sum_laws.proofs.Tests.once_at_most, def_math.specs.Counts.count, def_math.specs.Counts.count_below}
-use Rattle.{gadget_laws.proofs.Pick.links_width, std.specs.List.AllByRecursion, gadget_laws.specs.Told.width_by}
 use Rattle.def_flow.specs.Network.{EndsBelow, Network, IsWithinBounds, arc_at, ends, degree, tangle_number}
+use Rattle.def_flow.specs.{MatchingGraph.matching_graph, Admissible.IsAdmissible, Admissible.entries}
+use Rattle.def_flow.specs.{declared.net.Arc.Arc, declared.net.End.End, declared.units.ArcUnit.ArcUnit}
 use Rattle.def_flow.specs.Units.{arcwise, down, low, cap, units_from, units, states_at, is_active, active, rim_active}
 use Rattle.def_flow.specs.MatchingGraph.{rim_links, rim, size_by, unit_size, units_links, first_fresh, lone_vertex}
-use Rattle.def_flow.specs.MatchingGraph.{matching_graph}
-use Rattle.def_flow.specs.{Admissible.IsAdmissible, Admissible.entries, declared.net.Arc.Arc, declared.net.End.End}
-use Rattle.def_flow.specs.{declared.units.ArcUnit.ArcUnit}
 use Rattle.gadget_laws.proofs.Box.{own_box, arc_active, weighted_ends, box_active, balanced_list, IsFit, arcs_fit}
+use Rattle.{sum_laws.proofs.Tests.once_at_most, def_math.specs.Counts.count, def_math.specs.Counts.count_below}
+use Rattle.{gadget_laws.proofs.Pick.links_width, std.specs.List.AllByRecursion, gadget_laws.specs.Told.width_by}
 
 -- The ends at a node on one side.
 abbrev ends_on : ℕ → Bool → List Arc → ℕ
@@ -37,8 +36,6 @@ weighted_high : (v : ℕ) (on : Bool) (arcs : List Arc) (xs : List ℕ) → leng
 weighted_high v on [] [] l high = (omega arith, λ none. refl)
 weighted_high v on (a ∷ arcs) (x ∷ xs) l high =
     let first : pos 1 ≤ℤ pos x = high 0 (omega arith) in
-    let here : 1 * arc_active v on a ≤ x * arc_active v on a =
-    mul-le-mul_right (arc_active v on a) (omega (integers, first)) in
     search (rules, weighted_high v on arcs xs (omega arith) (λ k lk. high (suc k) (omega arith)))
 weighted_high v on _ _ l high = absurd (omega arith)
 
@@ -47,14 +44,12 @@ no_single : (net : Network) (xs : List ℕ) → IsWithinBounds net → length xs
     → IsAdmissible net (entries xs) → (v : ℕ) → degree net.arcs v ≢ 1
 no_single net xs bounds l a v single = elim (cases_eq (ends_on v true net.arcs) 0) [
   | inl none ↦ omega (arith, single, degree_sides v net.arcs, equal, (side true).1 none, (side false).0)
-  | inr some ↦ (let none : ends_on v false net.arcs ≡ 0 = omega (arith, single, some, degree_sides v net.arcs) in
-      omega (arith, equal, some, (side false).1 none, (side true).0))
+  | inr some ↦ search (rules, degree_sides, equal, side)
 ]
   where
     high : (k : ℕ) → k < length xs → pos 1 ≤ℤ entries xs k
     high k lk = (let at : k < length net.arcs = omega (arith, l) in
-        let fit : IsFit net.nodes (arc_at net.arcs k) =
-        All-from_recursion (IsFit net.nodes) net.arcs (arcs_fit net.nodes net.arcs bounds.arcs) k _ at in
+        let fit : IsFit net.nodes (arc_at net.arcs k) = All-from_recursion _ _ (arcs_fit _ _ bounds.arcs) k _ at in
         omega (integers, fit.2, a.high k at))
 
     side : (on : Bool) → (ends_on v on net.arcs ≤ weighted_ends v on net.arcs xs)
@@ -113,9 +108,8 @@ ends_each nodes left (Some right) at = (at.0, (at.1, tt))
 
 exchange : (f : ℕ → ℕ) (nodes : ℕ) (arcs : List Arc) → AllByRecursion (IsFit nodes) arcs
     → count_below (λ v. degree arcs v * f v) nodes ≡ along_ends f arcs
-exchange f nodes = exchange_each (IsFit nodes) (λ a v. count (λ e. cond (e.node == v) 1 0) (ends a)) (λ a. count
-    (λ e. f e.node) (ends a)) f nodes (λ a fit. exchange_each (λ e. e.node < nodes) (λ e v. cond (e.node == v) 1 0)
-    (λ e. f e.node) f nodes (λ e l. one_node f nodes e.node l) (ends a) (ends_each nodes a.left a.right fit.0))
+exchange f nodes = exchange_each _ _ _ f _ (λ a fit. exchange_each _ _
+    _ f _ (λ e l. one_node f _ _ l) (ends a) (ends_each _ a.left _ fit.0))
 
 -- The number of all ends.
 abbrev all_ends : List Arc → ℕ
@@ -123,8 +117,7 @@ all_ends arcs = along_ends (λ v. 1) arcs
 
 degrees_sum : (nodes : ℕ) (arcs : List Arc) → AllByRecursion (IsFit nodes) arcs
     → count_below (degree arcs) nodes ≡ all_ends arcs
-degrees_sum nodes arcs at = count_below_same (degree arcs) (λ v. degree arcs v * 1) nodes (λ v l. omega arith)
-    ∙ exchange (λ v. 1) nodes arcs at
+degrees_sum nodes arcs at = count_below_same _ _ _ (λ v l. omega arith) ∙ exchange _ _ _ at
 
 -- Where no node has a single end, there are at most 1/32 of the tangle number of ends.
 tangle_high : (net : Network) → AllByRecursion (IsFit net.nodes) net.arcs → ((v : ℕ) → degree net.arcs v ≢ 1)
@@ -228,10 +221,7 @@ size_law net step xs bounds l a =
       degrees_sum net.nodes net.arcs at,
     ) in
     let pairs_low : cond lone 1 0 + 2 * (length (rim first us) - 1) ≤ 2 * count is_lone us =
-    elim (cases_eq (count is_lone us) 0) [
-      | inl none ↦ search (rules, rim_active_low, rim_count)
-      | inr some ↦ omega (arith, some, once_at_most lone, rim_count first us)
-    ] in
+    search (rules, rim_active_low, rim_count) in
     let vertices : (matching_graph net step xs).n ≤ first + 16 * all_ends net.arcs = omega (
       arith,
       pairs_low,

@@ -2,17 +2,16 @@
 use Rattle.std.proofs.Common.{rules, ◌≡◌, ℕ, ◌+◌, ◌<◌, ◌≤◌, Bool, true, false, cond, not, ◌&&◌, ◌==◌, [], ◌∷◌, ◌++◌}
 use Rattle.std.proofs.Common.{length, Option, Some, None, option_to_list, ℤ, pos, ◌+ℤ◌, refl, sym, ◌∙◌, eq-eqb, List}
 use Rattle.std.proofs.Common.{ne_eqb, inl, inr, length-append, arith}
-use Rattle.std.proofs.lemmas.Bool.{cases_Bool}
 use Rattle.sum_laws.proofs.Sums.{total_below_same, total_below_sum, total_below_one, span_sum, integers}
-use Rattle.def_flow.specs.MatchingGraph.{to_copies, inner_link, are_alike, links_by, size_by, unit_size, unit_links}
-use Rattle.def_flow.specs.MatchingGraph.{units_links, with_rim, rim}
-use Rattle.def_flow.specs.{Units.is_active, Units.active, Units.active_at, Units.rim_active, Units.cost_on}
-use Rattle.def_flow.specs.{Network.EndsBelow, declared.net.End.End, declared.units.ArcUnit.ArcUnit}
+use Rattle.def_flow.specs.MatchingGraph.{to_copies, inner_link, are_alike, links_by, size_by, unit_size, units_links}
+use Rattle.def_flow.specs.{MatchingGraph.with_rim, MatchingGraph.rim, Network.EndsBelow, declared.net.End.End}
+use Rattle.def_flow.specs.Units.{is_active, active, active_at, rim_active, cost_on}
 use Rattle.gadget_laws.specs.Marks.{take_end, end_marks, marks_by, trues, units_marks, with_state, rim_states}
 use Rattle.gadget_laws.proofs.Pick.{picked, pick_append, end_value, pick_end, end_length, choice_length, fan_length}
-use Rattle.gadget_laws.proofs.Pick.{at_ends}
 use Rattle.def_math.specs.{Sums.total_below, Sums.span, Counts.count, Counts.count_below}
-use Rattle.{def_matching.specs.declared.weighted.WEdge.WEdge, std.specs.List.AllByRecursion}
+use Rattle.{std.proofs.lemmas.Bool.cases_Bool, def_flow.specs.declared.units.ArcUnit.ArcUnit}
+use Rattle.{gadget_laws.proofs.Pick.at_ends, def_matching.specs.declared.weighted.WEdge.WEdge}
+use Rattle.std.specs.List.{AllByRecursion}
 
 -- What the copies in use weigh.
 abbrev pub held : ℕ → (ℕ → ℕ) → (ℕ → ℤ) → (ℕ → ℕ) → ℤ
@@ -22,10 +21,6 @@ pub held_same : (nodes : ℕ) (copies_at : ℕ → ℕ) (w : ℕ → ℤ) (used 
     → ((v : ℕ) → v < nodes → used v ≡ other v) → held nodes copies_at w used ≡ held nodes copies_at w other
 held_same nodes copies_at w used other same = search (rules, total_below_same)
 
--- One copy more at a node.
-one_more : (w : ℕ → ℤ) (a n : ℕ) (b : Bool) → span w a (n + cond b 1 0) ≡ span w a n +ℤ cond b (w (a + n)) (pos 0)
-one_more w a n b = grind (integers, span_sum w a n 1, span_sum w a n 0)
-
 -- An active end takes one copy of its node.
 pub held_end : (nodes : ℕ) (copies_at : ℕ → ℕ) (w : ℕ → ℤ) (used : ℕ → ℕ) (some : Bool) (e : End) → e.node < nodes
     → held nodes copies_at w (take_end used some e) ≡ held nodes copies_at w used +ℤ cond some
@@ -33,8 +28,12 @@ pub held_end : (nodes : ℕ) (copies_at : ℕ → ℕ) (w : ℕ → ℤ) (used :
 held_end nodes copies_at w used some e l =
     let old : ℕ → ℤ = λ v. span w (count_below copies_at v) (used v) in
     let new : ℕ → ℤ = λ v. cond ((e.node == v) && some) (w (count_below copies_at v + used v)) (pos 0) in
-    let parts : held nodes copies_at w (take_end used some e) ≡ total_below (λ v. old v +ℤ new v) nodes =
-    total_below_same _ _ nodes (λ v lv. one_more w (count_below copies_at v) (used v) ((e.node == v) && some)) in
+    let parts : held nodes copies_at w (take_end used some e) ≡ total_below (λ v. old v +ℤ new v) nodes
+    = total_below_same _ _ nodes (λ v lv. grind (
+      integers,
+      span_sum w (count_below copies_at v) (used v) 1,
+      span_sum w (count_below copies_at v) (used v) 0,
+    )) in
     let single : total_below new nodes ≡ new e.node =
     total_below_one new nodes e.node l (λ v lv ne. rw (ne_eqb e.node v (λ q. ne (sym q))) refl) in
     search (rules, total_below_sum)
@@ -73,14 +72,13 @@ module _ (f : WEdge → ℤ) (copies_at used : ℕ → ℕ) (b : ℕ) (c : ℤ) 
       omega (integers, first_picked None (not (is_active on left) ∷ []) (inner_link b c left ∷ []) free)
   pick_unit (Some right) free =
       let second = end_marks copies_at next (is_active on right) right in
-      let found = end_free (next right.node) (copies_at right.node) right.node (is_active on right)
-      (omega (arith, free right.node)) in
+      let found = end_free _ _ right.node _ (omega (arith, free right.node)) in
       elim (cases_Bool (are_alike left right)) [
         | inl e ↦ rw e (omega (
           integers,
           first_picked (Some right) (second ++ not (is_active on left) ∷ [])
               (to_copies copies_at (b + 1) (pos 0) right ++ inner_link b c left ∷ []) free,
-          pick_append f second (not (is_active on left) ∷ []) (to_copies copies_at (b + 1) (pos 0) right)
+          pick_append f _ (not (is_active on left) ∷ []) _
               (inner_link b c left ∷ []) (end_length copies_at next (is_active on right) right (b + 1) (pos 0)),
           pick_end f copies_at next (is_active on right) right (b + 1) (pos 0) found,
         ))
@@ -90,14 +88,6 @@ module _ (f : WEdge → ℤ) (copies_at used : ℕ → ℕ) (b : ℕ) (c : ℤ) 
           pick_end f copies_at next (is_active on right) right b c found,
         ))
       ]
-
--- The signs decide which ends are active together.
-pub alike_active : (on : Bool) (left right : End) → are_alike left right ≡ true → is_active on left ≡ is_active on right
-alike_active on left right = grind (arith)
-
-pub unlike_active : (on : Bool) (left right : End) → are_alike left right ≡ false → is_active on left
-    ≡ not (is_active on right)
-unlike_active on left right = grind (arith)
 
 -- What a unit's vertices p and q weigh, and the copies x and y, by the signs l and r of its ends.
 lone_weight : (a : Bool) (p q x : ℤ) → cond a (p +ℤ x) (pos 0) +ℤ (cond (not a) (p +ℤ q) (pos 0) +ℤ cond a q (pos 0))
@@ -153,10 +143,8 @@ unit_weight w nodes copies_at used b c on left (Some right) os rs ends free =
 pub unit_cost : (copies_at used : ℕ → ℕ) (b : ℕ) (c : ℤ) (on : Bool) (left : End) (right : Option End) → ((v : ℕ)
     → used v + ends_active v on left right ≤ copies_at v) → picked (λ e. e.cost) (marks_by copies_at used on left right)
     (links_by copies_at b c left right) ≡ cond on c (pos 0)
-unit_cost copies_at used b c on left None free = pick_unit (λ e. e.cost) copies_at used b c on left None free
-    ∙ grind integers
-unit_cost copies_at used b c on left (Some right) free = pick_unit (λ e. e.cost) copies_at used b c on left (Some right)
-    free ∙ grind integers
+unit_cost copies_at used b c on left None free = pick_unit _ _ _ b c on _ None free ∙ grind integers
+unit_cost copies_at used b c on left (Some right) free = pick_unit _ _ _ b c on _ (Some right) free ∙ grind integers
 
 -- A unit has as many marks as edges.
 pub unit_length : (copies_at used : ℕ → ℕ) (b : ℕ) (c : ℤ) (on : Bool) (left : End) (right : Option End)
@@ -180,10 +168,9 @@ units_weight w nodes copies_at used b (u ∷ us) (on ∷ ons) l at free =
     let next : ℕ → ℕ = λ v. used v + active_at v u on in
     omega (
       integers,
-      pick_append (at_ends w) (marks_by copies_at used on u.left u.right) (units_marks copies_at next us ons)
-          (unit_links copies_at b u) (units_links copies_at (b + unit_size u) us)
-          (unit_length copies_at used b u.cost on u.left u.right),
-      unit_weight w nodes copies_at used b u.cost on u.left u.right (rim_states us ons) (rim (b + unit_size u) us) at.0
+      pick_append (at_ends w) (marks_by copies_at used on u.left u.right) (units_marks copies_at next us ons) _
+          (units_links copies_at (b + unit_size u) us) (unit_length copies_at used b u.cost on _ u.right),
+      unit_weight w _ copies_at used b u.cost on u.left u.right (rim_states us ons) (rim (b + unit_size u) us) at.0
           (λ v. omega (arith, free v)),
       span_sum w b (unit_size u) (count unit_size us),
       held_same nodes copies_at w (λ v. used v + (active_at v u on + active v us ons))
@@ -198,12 +185,11 @@ pub units_cost : (copies_at used : ℕ → ℕ) (b : ℕ) (us : List ArcUnit) (o
     → picked (λ e. e.cost) (units_marks copies_at used us ons) (units_links copies_at b us) ≡ cost_on us ons
 units_cost copies_at used b (u ∷ us) (on ∷ ons) l free =
     let next : ℕ → ℕ = λ v. used v + active_at v u on in
-    omega (
-      integers,
-      pick_append (λ (e : WEdge). e.cost) (marks_by copies_at used on u.left u.right)
-          (units_marks copies_at next us ons) (unit_links copies_at b u) (units_links copies_at (b + unit_size u) us)
-          (unit_length copies_at used b u.cost on u.left u.right),
-      unit_cost copies_at used b u.cost on u.left u.right (λ v. omega (arith, free v)),
+    search (
+      rules,
+      pick_append,
+      unit_length,
+      unit_cost,
       units_cost copies_at next (b + unit_size u) us ons (omega arith) (λ v. omega (arith, free v)),
     )
 units_cost copies_at used b _ _ l free = omega integers
@@ -211,10 +197,11 @@ units_cost copies_at used b _ _ l free = omega integers
 -- There are as many marks as edges.
 pub units_length : (copies_at used : ℕ → ℕ) (b : ℕ) (us : List ArcUnit) (ons : List Bool) → length us ≡ length ons
     → length (units_marks copies_at used us ons) ≡ length (units_links copies_at b us)
-units_length copies_at used b (u ∷ us) (on ∷ ons) l = simp length-append (rw (
-  unit_length copies_at used b u.cost on u.left u.right,
+units_length copies_at used b (u ∷ us) (on ∷ ons) l = simp length-append (search (
+  rules,
+  unit_length,
   units_length copies_at (λ v. used v + active_at v u on) (b + unit_size u) us ons (omega arith),
-) refl)
+))
 units_length copies_at used b _ _ l = omega arith
 
 -- There are as many states at the rim as vertices.

@@ -1,19 +1,18 @@
 -- The whole matching of states: each vertex gets one mate, and the cost is that of the units that are on.
 use Rattle.std.proofs.Common.{rules, ◌≡◌, ℕ, zero, suc, ◌+◌, ◌*◌, ◌%◌, ◌<◌, Bool, true, false, cond, ◌==◌, List, ◌∷◌}
-use Rattle.std.proofs.Common.{length, map, Option, Some, None, ℤ, pos, ◌+ℤ◌, refl, ◌∙◌, zero-add, add-zero, ◌≢◌}
-use Rattle.std.proofs.Common.{length-append, eq-eqb, ne_eqb, mul-zero, mul-add, arith}
-use Rattle.def_math.specs.{Sums.total, Sums.total_below, Sums.span, Counts.count, Counts.count_below}
+use Rattle.std.proofs.Common.{length, map, Option, ℤ, pos, ◌+ℤ◌, refl, ◌∙◌, zero-add, ◌≢◌, length-append, eq-eqb}
+use Rattle.std.proofs.Common.{ne_eqb, mul-zero, mul-add, arith}
+use Rattle.def_math.specs.Sums.{total, total_below, span}
 use Rattle.sum_laws.proofs.Sums.{total_below_none, total_below_one, total_below_span, total_same, integers, count_total}
 use Rattle.def_matching.specs.Matching.{WeightedGraph, IsPerfect, edge_at, ends_at, matching_cost}
-use Rattle.def_matching.specs.declared.weighted.WEdge.{WEdge}
 use Rattle.def_flow.specs.MatchingGraph.{unit_size, units_links, rim, rim_links, first_fresh, lone_vertex, graph_by}
-use Rattle.def_flow.specs.{Units.active, Units.rim_active, Units.cost_on, declared.units.ArcUnit.ArcUnit}
+use Rattle.def_flow.specs.Units.{active, rim_active, cost_on}
 use Rattle.gadget_laws.specs.Marks.{trues, places, units_marks, rim_marks, rim_states, states_marks}
 use Rattle.gadget_laws.proofs.Pick.{picked, pick_append, chosen_sum, places_rise, at_ends, pairs, IsThere, waiting}
-use Rattle.gadget_laws.proofs.Pick.{chain_sum, rim_length}
+use Rattle.gadget_laws.proofs.{Pick.chain_sum, Pick.rim_length, Units.rim_trues, Edges.picked_free, Edges.rest_free}
 use Rattle.gadget_laws.proofs.Units.{held, held_same, UnitsAt, units_weight, units_cost, units_length, states_length}
-use Rattle.gadget_laws.proofs.Units.{rim_trues}
-use Rattle.gadget_laws.proofs.Edges.{picked_free, rest_free}
+use Rattle.{def_math.specs.Counts.count, def_math.specs.Counts.count_below}
+use Rattle.{def_matching.specs.declared.weighted.WEdge.WEdge, def_flow.specs.declared.units.ArcUnit.ArcUnit}
 
 -- States fit a graph: one for each unit, as many active ends at each node as it has copies, and an even number at
 -- the rim with the lone vertex.
@@ -63,14 +62,7 @@ graph_total : (w : ℕ → ℤ) (nodes : ℕ) (copies_at : ℕ → ℕ) (lone : 
     ≡ ((total_below w (count_below copies_at nodes) +ℤ span w (count_below copies_at nodes) (count unit_size us)) +ℤ
     waiting w (lone_vertex nodes copies_at lone us) lone) +ℤ span w (first_fresh nodes copies_at lone us)
     (pairs (length (rim (count_below copies_at nodes) us)))
-graph_total w nodes copies_at lone us =
-    let copies = count_below copies_at nodes in
-    let inner = copies + count unit_size us in
-    let by_lone : (o : Bool) → total_below w (inner + cond o 1 0) ≡ total_below w inner +ℤ waiting w
-    (cond o (Some inner) None) o = elim [
-      | true ↦ total_below_span w inner 1 ∙ omega integers
-      | false ↦ rw (add-zero inner) (omega integers)
-    ] in search (rules, total_below_span)
+graph_total w nodes copies_at lone us = let copies = count_below copies_at nodes in search (rules, total_below_span)
 
 -- There are as many marks as edges.
 pub marks_length : (nodes : ℕ) (copies_at : ℕ → ℕ) (lone : Bool) (us : List ArcUnit) (ons : List Bool) → length us
@@ -150,10 +142,8 @@ rim_parity nodes copies_at us ons other at l m fills fills_other =
         (λ v. pos 1) (count_below copies_at nodes) (count unit_size us)
     two xs lx fx = omega (
       integers,
-      filled_weight (λ v. pos 1) nodes copies_at us xs lx at fx,
-      picked_all 2 (units_marks copies_at (λ v. 0) us xs) (units_links copies_at (count_below copies_at nodes) us)
-          (units_length copies_at (λ v. 0) (count_below copies_at nodes) us xs lx),
-      picked_all 1 (rim_states us xs) (rim (count_below copies_at nodes) us)
-          (states_length (count_below copies_at nodes) us xs lx),
+      filled_weight (λ v. pos 1) _ copies_at us xs lx at fx,
+      picked_all 2 _ (units_links copies_at (count_below copies_at nodes) us) (units_length _ (λ v. 0) _ us xs lx),
+      picked_all 1 (rim_states us xs) _ (states_length (count_below copies_at nodes) us xs lx),
       rim_trues us xs,
     )

@@ -2,16 +2,15 @@
 use Rattle.std.proofs.Common.{rules, ◌≡◌, ℕ, ◌<◌, Bool, true, false, cond, List, [], ◌∷◌, length, ℤ, pos, ◌+ℤ◌, ◌-ℤ◌}
 use Rattle.std.proofs.Common.{refl, ◌∙◌, ap, arith, ◌≢◌, ◌≤◌, not, option_to_list, Option, Some, None, negsuc, neg_ℤ}
 use Rattle.std.proofs.Common.{unsigned_abs, sym, inl, inr, eq-eqb, zero, suc, ◌+◌, ◌*◌, ◌*ℤ◌, ◌≤ℤ◌, ◌⊎◌}
-use Rattle.std.proofs.Common.{mul-le-mul_left, mul-add}
-use Rattle.std.proofs.{lemmas.Bool.cases_lt, lemmas.Bool.cases_eq, Math.IntN.*ℤ-zero}
+use Rattle.std.proofs.{Common.mul-le-mul_left, Common.mul-add, lemmas.Bool.cases_lt, lemmas.Bool.cases_eq}
 use Rattle.sum_laws.proofs.Sums.{total_below_same, total_below_sum, total_below_minus, total_below_none, integers}
 use Rattle.sum_laws.proofs.Sums.{times_sum, count_below_same, count_below_sum, count_below_le, count_below_lt}
 use Rattle.def_flow.specs.Admissible.{is_on_side, side_sum, IsBalanced, IsAdmissible, arc_deviation, deviation}
-use Rattle.def_flow.specs.{Network.ends, Network.arc_at, Network.Network, declared.net.Arc.Arc, declared.net.End.End}
-use Rattle.def_flow.specs.{Nearby.IsPart, Nearby.IsSmallPart}
+use Rattle.def_flow.specs.{declared.net.Arc.Arc, declared.net.End.End, Nearby.IsPart, Nearby.IsSmallPart}
+use Rattle.def_flow.specs.Network.{ends, arc_at, Network}
 use Rattle.network_laws.proofs.Walk.{Tour, IsEvenOut, arc_weight, uses, tour, tour_even, at_most_twice}
-use Rattle.network_laws.proofs.Ports.{Port, weigh}
-use Rattle.def_math.specs.{Sums.total, Sums.total_below, Counts.count_below}
+use Rattle.{network_laws.proofs.Ports.Port, network_laws.proofs.Ports.weigh, def_math.specs.Sums.total}
+use Rattle.{def_math.specs.Sums.total_below, def_math.specs.Counts.count_below}
 
 -- The ends of an arc on a side take the sum of two entries as the sum of what they take of each.
 ends_sum : (v : ℕ) (plus : Bool) (x y : ℤ) (es : List End) → total (λ e. cond (is_on_side v plus e) (x +ℤ y) (pos 0)) es
@@ -43,8 +42,7 @@ pub balanced_minus : (arcs : List Arc) (x y : ℕ → ℤ) → IsBalanced arcs x
     → IsBalanced arcs (λ k. x k -ℤ y k)
 balanced_minus arcs x y bx by v =
     let side : (plus : Bool) → side_sum arcs x plus v ≡ side_sum arcs (λ k. x k -ℤ y k) plus v +ℤ side_sum arcs y plus
-    v = λ plus. same_sides arcs x (λ k. (x k -ℤ y k) +ℤ y k) (λ k l. omega integers) plus v
-    ∙ sides_sum arcs (λ k. x k -ℤ y k) y plus v in
+    v = λ plus. same_sides arcs x _ (λ k l. omega integers) _ v ∙ sides_sum arcs _ y _ v in
     omega (integers, side true, side false, bx v, by v)
 
 -- Whether a difference goes up, and m with its sign.
@@ -82,10 +80,6 @@ weigh_down : (v : ℕ) (q : Option Port) (m : ℤ) → weigh (record { node = v;
 weigh_down v None m = refl
 weigh_down v (Some q) m = grind integers
 
--- A whole number is its absolute value with its sign.
-signed_self : (z : ℤ) → signed (goes_up z) (unsigned_abs z) ≡ z
-signed_self z = grind integers
-
 -- What is not zero is at least 1 away from it.
 pub abs_some : (z : ℤ) → z ≢ pos 0 → 0 < unsigned_abs z
 abs_some z ne = elim (cases_lt 0 (unsigned_abs z)) [ inl l ↦ l | inr none ↦ absurd (ne (omega integers)) ]
@@ -103,10 +97,7 @@ module _ (arcs : List Arc) (d : ℕ → ℤ) where
       ≡ total_below (λ k. arc_weight left right (record { node = v; up = true }) k (pos (m k))) (length arcs)
   unfolding left right
   sides_weigh m v =
-      let on : Bool → ℕ → ℤ = λ plus k. total (λ e. cond (is_on_side v plus e) (signed (goes_up (d k)) (m k)) (pos 0))
-      (ends (arc_at arcs k)) in
-      sym (total_below_minus (on true) (on false) (length arcs)) ∙ total_below_same (λ k. on true k -ℤ on false k) _
-      (length arcs) (λ k l. arc_weighs v (goes_up (d k)) (m k) (arc_at arcs k).left (arc_at arcs k).right)
+      sym (total_below_minus _ _ (length arcs)) ∙ total_below_same _ _ (length arcs) (λ k l. arc_weighs v _ _ _ _)
 
   -- The copies of a balanced difference are even for each effect.
   even_out : IsBalanced arcs d → IsEvenOut left right (length arcs) (λ k. unsigned_abs (d k))
@@ -120,8 +111,8 @@ module _ (arcs : List Arc) (d : ℕ → ℤ) where
         integers,
         sides_weigh (λ k. unsigned_abs (d k)) v,
         balanced v,
-        same_sides arcs (λ k. signed (goes_up (d k)) (unsigned_abs (d k))) d (λ k l. signed_self (d k)) true v,
-        same_sides arcs (λ k. signed (goes_up (d k)) (unsigned_abs (d k))) d (λ k l. signed_self (d k)) false v,
+        same_sides arcs (λ k. signed (goes_up (d k)) (unsigned_abs (d k))) d (λ k l. grind integers) true v,
+        same_sides arcs (λ k. signed (goes_up (d k)) (unsigned_abs (d k))) d (λ k l. grind integers) false v,
       )
 
       by_up : (v : ℕ) (up : Bool) → total_below (weights up v) (length arcs) ≡ pos 0
@@ -150,33 +141,25 @@ pub walk_law : (net : Network) (x other : ℕ → ℤ) (k : ℕ) → IsAdmissibl
     → k < length net.arcs → x k ≢ other k → (change : ℕ → ℤ) × IsSmallPart net x other change
 walk_law net x other k ax ao l differ =
     let d : ℕ → ℤ = λ j. other j -ℤ x j in
-    let t : Tour (left net.arcs d) (right net.arcs d) (length net.arcs) (λ j. unsigned_abs (d j)) =
-    tour (left net.arcs d) (right net.arcs d) (length net.arcs) (λ j. unsigned_abs (d j))
-    (even_out net.arcs d (balanced_minus net.arcs other x ao.balanced ax.balanced)) k l
+    let t : Tour (left net.arcs d) (right net.arcs d) (length net.arcs) (λ j. unsigned_abs (d j)) = tour _ _ _ _
+    (even_out net.arcs d (balanced_minus net.arcs _ x ao.balanced ax.balanced)) k l
     (abs_some (d k) (λ e. differ (omega integers))) in
     let used : ℕ → ℕ = λ j. uses j (t.first ∷ t.others) in
     let some : 1 ≤ used t.first.arc = rw (eq-eqb t.first.arc t.first.arc refl) (omega arith) in (
       λ j. signed (goes_up (d j)) (used j),
       record {
-        part = λ j lj. part_of net.arcs d (d j) (used j) (t.within j);
-        small = λ j lj. rw (abs_signed net.arcs d (goes_up (d j)) (used j))
-            (at_most_twice (left net.arcs d) (right net.arcs d) (length net.arcs) (λ j. unsigned_abs (d j)) t j);
+        part = λ j lj. part_of net.arcs d _ _ (t.within j);
+        small = search (rules, abs_signed, at_most_twice);
         balanced = λ v. omega (
           integers,
           sides_weigh net.arcs d used v,
-          tour_even (left net.arcs d) (right net.arcs d) (length net.arcs) (λ j. unsigned_abs (d j)) t
-              (record { node = v; up = true }),
+          tour_even _ _ _ _ t (record { node = v; up = true }),
         );
         place = t.first.arc;
         within = t.low.0;
         nonzero = λ e. (let zero_used : unsigned_abs (signed (goes_up (d t.first.arc)) (used t.first.arc)) ≡ 0 =
             ap unsigned_abs e in
-            omega (
-              arith,
-              zero_used,
-              some,
-              abs_signed net.arcs d (goes_up (d t.first.arc)) (used t.first.arc),
-            ));
+            omega (arith, zero_used, some, abs_signed net.arcs d (goes_up (d t.first.arc)) (used t.first.arc)));
       },
     )
 
@@ -190,8 +173,7 @@ times_le (suc q) a b le = omega (integers, le, times_le q a b le)
 -- A part stays a part when both are multiplied.
 part_times : (q : ℕ) (c d : ℤ) → IsPart c d → IsPart (pos q *ℤ c) (pos q *ℤ d)
 part_times q c d (inl (low, high)) = search (rules, times_le)
-part_times q c d (inr (low, high)) =
-    inr (times_le q d c low, omega (integers, times_le q c (pos 0) high, *ℤ-zero (pos q)))
+part_times q c d (inr (low, high)) = inr (times_le q d c low, search rules)
 
 -- The distance from a point is convex.
 abs_convex : (x c d : ℤ) → IsPart c d → unsigned_abs (x +ℤ c) + unsigned_abs ((x +ℤ d) -ℤ c)
@@ -237,8 +219,7 @@ deviation_convex net x other c part =
       arith,
       count_below_sum (at (λ k. x k +ℤ c k)) (at (λ k. other k -ℤ c k)) n,
       count_below_sum (at x) (at other) n,
-      count_below_le (λ k. at (λ j. x j +ℤ c j) k + at (λ j. other j -ℤ c j) k) (λ k. at x k + at other k) n
-          (λ k l. arc_convex net (arc_at net.arcs k) (x k) (other k) (c k) (part k l)),
+      count_below_le _ _ n (λ k l. arc_convex net (arc_at net.arcs k) (x k) (other k) (c k) (part k l)),
     )
 
 -- Two lists differ at some arc, or at none.
@@ -248,12 +229,7 @@ differ_or_not x y (suc n) = elim (differ_or_not x y n) [
   | inl (k, l, ne) ↦ inl (k, omega arith, ne)
   | inr same ↦ elim (cases_eq (unsigned_abs (x n -ℤ y n)) 0) [
     | inr ne ↦ inl (n, omega arith, λ e. ne (let z : x n -ℤ y n ≡ pos 0 = omega (integers, e) in ap unsigned_abs z))
-    | inl e ↦
-        let at : x n ≡ y n = omega (integers, e) in
-        inr (λ k l. elim (cases_eq k n) [
-          | inl here ↦ ap x here ∙ at ∙ sym (ap y here)
-          | inr before ↦ same k (omega arith)
-        ])
+    | inl e ↦ search rules
   ]
 ]
 
@@ -284,12 +260,12 @@ nearer : (net : Network) (x other : ℕ → ℤ) → IsAdmissible net x → IsAd
 nearer net x other ax ao better on = elim (differ_or_not x other (length net.arcs)) [
   | inr same ↦ absurd (omega (
     arith,
-    count_below_same (λ k. arc_deviation net (arc_at net.arcs k) (x k)) (λ k. arc_deviation net (arc_at net.arcs k)
-        (other k)) (length net.arcs) (λ k l. ap (arc_deviation net (arc_at net.arcs k)) (same k l)),
+    count_below_same (λ k. arc_deviation net (arc_at net.arcs k) (x k)) _ (length net.arcs)
+        (λ k l. ap (arc_deviation net (arc_at net.arcs k)) (same k l)),
   ))
   | inl (place, inside, differ) ↦
-      let (c, p) = walk_law net x other place ax ao inside differ in
-      let high = λ (k : ℕ) (l : k < length net.arcs). part_high (pos (arc_at net.arcs k).floor) (x k) (other k) (c k)
+      let (c, p) = walk_law _ x other _ ax ao inside differ in
+      let high = λ (k : ℕ) (l : k < length net.arcs). part_high (pos (arc_at net.arcs k).floor) _ (other k) _
       (ax.high k l) (ao.high k l) (p.part k l) in
       elim (cases_lt (deviation net (λ k. x k +ℤ c k)) (deviation net x)) [
         | inl here ↦ (
@@ -300,14 +276,10 @@ nearer net x other ax ao better on = elim (differ_or_not x other (length net.arc
         )
         | inr not_here ↦ on (λ k. other k -ℤ c k)
             (record { high = λ k l. (high k l).1; balanced = balanced_minus net.arcs other c ao.balanced p.balanced })
-            (omega (arith, deviation_convex net x other c p.part))
-            (count_below_lt (λ k. unsigned_abs ((other k -ℤ c k) -ℤ x k)) (λ k. unsigned_abs (other k -ℤ x k))
-            (length net.arcs) p.place p.within (λ k l. omega (arith, part_nearer (x k) (other k) (c k) (p.part k l)))
-            (omega (
-              arith,
-              part_nearer (x p.place) (other p.place) (c p.place) (p.part p.place p.within),
-              abs_some (c p.place) p.nonzero,
-            )))
+            (omega (arith, deviation_convex net x _ c p.part))
+            (count_below_lt (λ k. unsigned_abs ((other k -ℤ c k) -ℤ x k)) _
+            (length net.arcs) _ p.within (λ k l. omega (arith, part_nearer (x k) _ (c k) (p.part k l)))
+            (omega (arith, part_nearer _ (other p.place) _ (p.part p.place p.within), abs_some (c p.place) p.nonzero)))
       ]
 ]
 

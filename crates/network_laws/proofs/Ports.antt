@@ -25,10 +25,6 @@ is_same None (Some q) = false
 is_same (Some p) None = false
 is_same (Some p) (Some q) = (q.node == p.node) && cond p.up q.up (not q.up)
 
--- What the test says is one, is one.
-pub same_is : (p q : Option Port) → is_same p q ≡ true → p ≡ q
-same_is p q h1 = search rules
-
 -- The opposite effect weighs the opposite.
 pub weigh_opposite : (p : Port) (q : Option Port) (m : ℤ) → weigh p (opposite q) m ≡ neg_ℤ (weigh p q m)
 weigh_opposite p None m = refl

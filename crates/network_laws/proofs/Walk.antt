@@ -6,7 +6,7 @@ use Rattle.std.proofs.lemmas.Bool.{cases_eq, cases_Bool}
 use Rattle.def_math.specs.{Sums.total, Sums.total_below, Counts.count, Counts.count_below}
 use Rattle.sum_laws.proofs.Sums.{total_below_sum, total_below_same, total_below_none, total_below_one, integers}
 use Rattle.sum_laws.proofs.Sums.{cases_neg, some_below, count_below_lt}
-use Rattle.network_laws.proofs.Ports.{Port, opposite, weigh, is_same, same_is, weigh_opposite, weigh_sum, weigh_none}
+use Rattle.network_laws.proofs.Ports.{Port, opposite, weigh, is_same, weigh_opposite, weigh_sum, weigh_none}
 use Rattle.network_laws.proofs.Ports.{weigh_self, weigh_other, weigh_low}
 
 -- A step along an arc, from its left end to its right one or back.
@@ -67,16 +67,14 @@ module _ (left right : ℕ → Option Port) where
   -- The steps weigh what the uses of the arcs weigh.
   pub used_sum : (n : ℕ) (p : Port) (l : List Step) → IsLow n l
       → total_below (λ k. arc_weight p k (pos (uses k l))) n ≡ gain p l
-  used_sum n p [] low = total_below_none (λ k. arc_weight p k (pos 0)) n
-      (λ k lk. omega (integers, weigh_none p (left k), weigh_none p (right k)))
+  used_sum n p [] low = total_below_none _ n (λ k lk. omega (integers, weigh_none p (left k), weigh_none p (right k)))
   used_sum n p (s ∷ l) low =
       let one : ℕ → ℤ = λ k. arc_weight p k (pos (cond (s.arc == k) 1 0)) in
       let rest : ℕ → ℤ = λ k. arc_weight p k (pos (uses k l)) in
       let here : one s.arc ≡ arc_weight p s.arc (pos 1) = rw (eq-eqb s.arc s.arc refl) refl in
       omega (
         integers,
-        total_below_same (λ k. arc_weight p k (pos (cond (s.arc == k) 1 0 + uses k l))) (λ k. one k +ℤ rest k) n
-            (λ k lk. arc_sum p k (pos (cond (s.arc == k) 1 0)) (pos (uses k l))),
+        total_below_same _ _ n (λ k lk. arc_sum p k (pos (cond (s.arc == k) 1 0)) (pos (uses k l))),
         total_below_sum one rest n,
         here,
         total_below_one one n s.arc low.0 (λ k lk ne. rw (ne_eqb s.arc k (λ e. ne (sym e)))
@@ -98,14 +96,7 @@ module _ (left right : ℕ → Option Port) where
       → Since n q l r
   since n q a [] r path low some = absurd (omega arith)
   since n q a (s ∷ l) r path low some = elim (cases_Bool (is_same q (head s))) [
-    | inl e ↦ record {
-      part = [];
-      path = same_is q (head s) e ∙ path.1;
-      low = tt;
-      visited = λ t. omega arith;
-      fewer = rw e (omega arith);
-      used = λ k. omega arith;
-    }
+    | inl e ↦ search rules
     | inr e ↦
         let later : 1 ≤ cond false 1 0 + visits q l = rw e at some in
         let further : Since n q l (opposite (tail s)) → Since n q (s ∷ l) r = λ h. record {
@@ -122,11 +113,6 @@ module _ (left right : ℕ → Option Port) where
   -- A step back along its arc begins where the step ends.
   turned : (s : Step) → tail (record { arc = s.arc; back = not s.back }) ≡ head s
   turned s = grind (arith)
-
-  -- One step more to a port that was not reached yet.
-  once_more : (s : Step) (m : List Step) → ((q : Option Port) → visits q m ≤ 1) → visits (head s) m ≡ 0
-      → (q : Option Port) → visits q (s ∷ m) ≤ 1
-  once_more s m once fresh q = search rules
 
   -- Two ports that differ, in the other order.
   differ_flip : (a q p : Option Port) → q ≡ p → is_same a q ≡ false → is_same p a ≡ false
@@ -159,10 +145,9 @@ module _ (left right : ℕ → Option Port) where
     onward even a l p path low within open_end =
         let (k, lk, neg) = some_below (λ k. arc_weight p k (left_over k)) n (omega (
           integers,
-          total_below_same (λ k. arc_weight p k (pos (copies k)))
-              (λ k. arc_weight p k (left_over k) +ℤ arc_weight p k (pos (uses k l))) n
+          total_below_same (λ k. arc_weight p k (pos (copies k))) _ n
               (λ k lk. (let whole : pos (copies k) ≡ left_over k +ℤ pos (uses k l) = omega integers in
-              ap (arc_weight p k) whole ∙ arc_sum p k (left_over k) (pos (uses k l)))),
+              ap (arc_weight p k) whole ∙ arc_sum p k (left_over k) _)),
           total_below_sum (λ k. arc_weight p k (left_over k)) (λ k. arc_weight p k (pos (uses k l))) n,
           even p,
           used_sum n p l low,
@@ -170,18 +155,14 @@ module _ (left right : ℕ → Option Port) where
           weigh_self p,
           weigh_other p a open_end,
         )) in
-        elim (cases_neg (weigh p (left k) (left_over k))) [
-          | inl at_left ↦ by k false lk at_left
-          | inr other ↦ by k true lk (omega integers)
-        ]
+        elim (cases_neg _) [ inl at_left ↦ by k false lk at_left | inr other ↦ by k true lk (omega integers) ]
       where
         left_over : ℕ → ℤ
         left_over k = pos (copies k) -ℤ pos (uses k l)
 
         by : (k : ℕ) (back : Bool) → k < n → weigh p (cond back (right k) (left k)) (left_over k) <ℤ pos 0 → Onward l p
         by k back lk low_there =
-            let h = weigh_low p (cond back (right k) (left k)) (left_over k) (omega (integers, within k))
-            low_there in
+            let h = weigh_low p (cond back (right k) (left k)) _ (omega (integers, within k)) low_there in
             record { step = record { arc = k; back = back }; within = lk; leaves = h.0; unused = omega (integers, h.1) }
 
     -- A path and a step that goes on from it, with no port reached twice so far.
@@ -215,63 +196,43 @@ module _ (left right : ℕ → Option Port) where
         → count_below (λ k. copies k - uses k l) n ≤ fuel → Tour ⊎ ((a ≢ None) × FreeEnd)
     closes even zero a l s w le = absurd (omega (arith, shorter w))
     closes even (suc fuel) a l s w le = elim (cases_Bool (is_same a (head s))) [
-      | inl e ↦
-          let here = same_is a (head s) e in
-          inl (record {
-            port = a;
-            first = s;
-            others = l;
-            path = (w.path, sym here);
-            once = once_more s l w.once (rw (← here) w.start);
-            within = used_more w;
-            low = (w.arc, w.low);
-          })
+      | inl e ↦ search rules
       | inr e ↦ elim (cases_eq (visits (head s) l) 0) [
         | inl fresh ↦ (elim (head s) as (λ q. head s ≡ q → Tour ⊎ ((a ≢ None) × FreeEnd)) [
           | None ↦ λ is. inr (
             λ none. true≢false (rw (is, none) at e),
             (record { arc = s.arc; back = not s.back }, w.arc, omega (arith, w.unused), turned s ∙ is),
           )
-          | Some p ↦ λ is.
-              (let o = onward even a (s ∷ l) p (w.path, is) (w.arc, w.low) (used_more w)
+          | Some p ↦ λ is. (let o = onward even a (s ∷ l) p (w.path, is) (w.arc, w.low) (used_more w)
               (differ_flip a (head s) (Some p) is e) in
-              closes even fuel a (s ∷ l) o.step (record {
-                path = rw o.leaves (w.path, is);
-                low = (w.arc, w.low);
-                arc = o.within;
-                within = used_more w;
-                unused = o.unused;
-                once = once_more s l w.once fresh;
-                start = rw e (omega (arith, w.start));
-              }) (omega (arith, shorter w)))
+              search (
+                rules,
+                closes even fuel a (s ∷ l) o.step (record {
+                  path = rw o.leaves (w.path, is);
+                  low = (w.arc, w.low);
+                  arc = o.within;
+                  within = used_more w;
+                  unused = o.unused;
+                  once = search rules;
+                  start = rw e (omega (arith, w.start));
+                })
+                    (omega (arith, shorter w)),
+              ))
         ]) refl
         | inr again ↦
             let h = since n (head s) a l (opposite (tail s)) w.path w.low (omega arith) in
-            inl (record {
-              port = head s;
-              first = s;
-              others = h.part;
-              path = (h.path, refl);
-              once = once_more s h.part (λ q. omega (arith, h.visited q, w.once q))
-                  (omega (arith, h.fewer, w.once (head s)));
-              within = λ k. omega (arith, used_more w k, h.used k);
-              low = (w.arc, h.low);
-            })
+            search rules
       ]
     ]
-
-    -- The walk that begins with a step.
-    begun : (s : Step) → s.arc < n → 0 < copies s.arc → Walk (opposite (tail s)) [] s
-    begun s l c = search rules
 
     -- Where the copies are even for each effect, and there are some, there is a closed walk.
     pub tour : IsEvenOut → (j : ℕ) → j < n → 0 < copies j → Tour
     tour even j lj cj =
         let all : ℕ = count_below (λ k. copies k - 0) n in
         let first : Step = record { arc = j; back = false } in
-        elim (closes even all (opposite (left j)) [] first (begun first lj cj) (omega arith)) [
+        elim (closes even all (opposite (left j)) [] first (search rules) (omega arith)) [
           | inl t ↦ t
-          | inr (ne, (s, l, c, e)) ↦ elim (closes even all (opposite (tail s)) [] s (begun s l c) (omega arith)) [
+          | inr (ne, (s, l, c, e)) ↦ elim (closes even all (opposite (tail s)) [] s (search rules) (omega arith)) [
             | inl t ↦ t
             | inr (elsewhere, free) ↦ absurd (elsewhere (rw e refl))
           ]

@@ -13,8 +13,7 @@ use Rattle.def_forest.specs.Forests.{bool_number, splits, Forest, IsTight, dual_
 use Rattle.def_forest.specs.{Tables.ForestTables, Tables.forest_of, Tables.MatchesBut, Darts.darts_of}
 use Rattle.forest_laws.proofs.Bounds.{dart_near, near_odd, dart_far, dart_cost, just_once}
 use Rattle.qm_forest.specs.Rounds.{IsSoundFor, AreMarked, IsLaminar, IsRound, leaving, waits_but, matched_by}
-use Rattle.qm_forest.proofs.{Fresh.same_everywhere, Withins.alone, Withins.another, MateRounds.due_one}
-use Rattle.qm_forest.proofs.{MateRounds.due_same}
+use Rattle.qm_forest.proofs.{Fresh.same_everywhere, Withins.another, MateRounds.due_one, MateRounds.due_same}
 
 -- An increasing list with one number more at its end.
 pub increasing_more : (low bound : ℕ) (xs : List ℕ) → low ≤ bound → IsIncreasing low bound xs
@@ -33,8 +32,7 @@ pub marked_more : {marks : List Bool} {e : ℕ} {xs : List ℕ} → get_or marks
 marked_more {marks} {e} {xs} on are = record {
   increasing = increasing_more 0 e xs (omega arith) are.increasing;
   each = λ k l. grind (arith, common_steps);
-  counts = λ f. (let next = ap (count_below (λ k. cond (get_or marks k false) (f k) 0)) (add-one e) in
-      grind (arith, count_append f xs (e ∷ []), are.counts f));
+  counts = λ f. (grind (arith, count_append f xs (e ∷ []), are.counts f));
 }
 
 pub marked_same : {marks : List Bool} {e : ℕ} {xs : List ℕ} → get_or marks e false ≡ false → AreMarked marks e xs
@@ -101,9 +99,8 @@ module _ {t : ForestTables} (known : IsLaminar t) {g : WeightedGraph} (valid : I
 
   -- Edges that leave a blossom, along the list.
   leaving_listed : (b : ℕ) → leaving t marks b ≡ count (leaves b) list
-  leaving_listed b = count_below_same _ (λ e. cond (get_or marks e false) (leaves b e) 0) _ (λ e l.
-      (let near = valid.ends (2 * e) (omega arith) ∙ dart_near g e in
-      let far = valid.ends (2 * e + 1) (omega arith) ∙ near_odd g (2 * e + 1) e refl in
+  leaving_listed b = count_below_same _ _ _ (λ e l. (let near = valid.ends (2 * e) (omega arith) ∙ dart_near g e in
+      let far = valid.ends (2 * e + 1) (omega arith) ∙ near_odd g _ e refl in
       rw (near, far) (and_number _ _))) ∙ sym (are.counts (leaves b))
 
   -- A vertex is met as often as it is left.
@@ -121,8 +118,7 @@ module _ {t : ForestTables} (known : IsLaminar t) {g : WeightedGraph} (valid : I
   matches_but b v lv round ended = record {
     increasing = increasing;
     tight = λ k l. round.tight g valid _ (are.each k l);
-    once = λ w lw. (let low : w < length t.hand = rw valid.vertices lw in
-        grind (arith, met_as_left w low, round_ends round ended w (omega arith), alone known w v low lv));
+    once = search (rules, met_as_left, round_ends);
   }
 
   module _ {left : List (Option ℕ)} (round : IsRound t marks left (λ b. 0) (matched_by t (length marks)))
@@ -137,9 +133,7 @@ module _ {t : ForestTables} (known : IsLaminar t) {g : WeightedGraph} (valid : I
     adds b e = cond (crosses (f.holds b) e) (f.weight b) (pos 0)
 
     counted : (b : ℕ) → b < f.size → matched_by t (length marks) b ≡ 1 → f.weight b ≡ total (adds b) es
-    counted b l one = sym (just_once (f.holds b) (f.weight b) es
-        (count_map (λ (e : WEdge). cond (crosses (f.holds b) e) 1 0) (edge_at g) list
-        ∙ (sym (leaving_listed b) ∙ (round_ends round ended b l ∙ one))))
+    counted b l one = sym (just_once (f.holds b) _ es (search (rules, count_map, leaving_listed, round_ends)))
 
     -- The edges are a perfect matching, and the sum of the weights is the sum of the loads.
     pub perfect : IsPerfect g list × (dual_sum_of f ≡ pos 2 *ℤ matching_cost g list)
@@ -165,5 +159,5 @@ module _ {t : ForestTables} (known : IsLaminar t) {g : WeightedGraph} (valid : I
 pub copied_more : (list : List ℕ) {pushed : List ℕ} (next : ℕ → ℕ) (from : ℕ) {k v : ℕ} → pushed ≡ list ++ v ∷ []
     → length list ≡ k → v ≡ walk next from k → ((j : ℕ) → j < k → get_or list j 0 ≡ walk next from j) → (j : ℕ)
     → j < k + 1 → get_or pushed j 0 ≡ walk next from j
-copied_more list next from {v = v} is size here each j l = (let read = ap (λ xs. get_or xs j 0) is in
-    grind (arith, get_or_append_left list (v ∷ []) 0 j, get_or_push list v 0 j, each j))
+copied_more list next from {v = v} is size here each j l
+    = (grind (arith, get_or_append_left list (v ∷ []) 0 j, get_or_push list v 0 j, each j))

@@ -1,7 +1,7 @@
 -- Climbing after a row of outermost blossoms got a set around them.
 use Rattle.std.proofs.Common.{rules, ◌≡◌, ◌≢◌, ℕ, zero, suc, ◌+◌, ◌<◌, ◌≤◌, Bool, true, false, cond, eqb, ◌||◌, refl}
 use Rattle.std.proofs.Common.{◌∙◌, ap, subst, inl, inr, arith, List, get_or, sym}
-use Rattle.std.proofs.lemmas.Bool.{cases_eq, cases_Bool, eq-eqb, ne_eqb, eqb-true, or_cases}
+use Rattle.std.proofs.lemmas.Bool.{cases_eq, cases_Bool, eq-eqb, eqb-true, or_cases}
 use Rattle.def_forest.specs.{Forests.walk, Tables.climbs, Tables.out_of, Tables.up_at}
 use Rattle.forest_laws.proofs.Walks.{walk_front, walk_fixed}
 use Rattle.qm_forest.specs.Ties.{IsClimb, IsInUse, IsLaidOut, IsListed}
@@ -68,10 +68,7 @@ module _ {n : ℕ} {up out rank up2 : ℕ → ℕ} {inside : ℕ → Bool} {b : 
         | inr inner ↦ (let top = rank_low rank climb rises v (up x) l (goes_on rank climb rises v x w) in
             absurd (omega (arith, rises x inner)))
       ]
-      from (suc m) x w h =
-          let more = from m (up x) (goes_on rank climb rises v x w) in
-          elim (cases_eq (up x) x)
-          [ inl at ↦ top (suc m) x w at | inr inner ↦ step m x w inner (more (omega (arith, rises x inner))) ]
+      from (suc m) x w h = let more = from m (up x) (goes_on rank climb rises v x w) in search rules
 
       by_size : (k : ℕ) → k ≡ n → P n v
       by_size zero e = absurd (omega arith)
@@ -82,27 +79,20 @@ module _ {n : ℕ} {up out rank up2 : ℕ → ℕ} {inside : ℕ → Bool} {b : 
   climb_enclosed = record {
     ends = λ v l. climbing (λ k x. walk up2 x k ≡ fresh v) v l (λ m x w top.
         (let x_is = fixed_top rank climb rises v l w top in
-        let there = walk_fixed up2 m up_b in
-        grind (arith, up_in x, up_off x, walk_front up2 x m, walk_fixed up2 {a = x} (suc m))))
-        (λ m x w inner more.
-        walk_front up2 x (suc m) ∙ (ap (λ z. walk up2 z (suc m)) (up_off x (off_inner x inner)) ∙ more));
+        search (rules, walk_fixed, walk_front))) (λ m x w inner more. search (rules, walk_front));
     tops = λ v l. grind (arith, up_b, up_off (out v), climb.tops v l);
   }
 
   -- One comes past the same old blossoms, and past the new set from the vertices of the row.
   pub holds_same : (c v : ℕ) → c ≢ b → v < n → climbs up2 n c v ≡ climbs up n c v
-  holds_same c v ne l = climbing (λ k x. climbs up2 k c x ≡ climbs up k c x) v l
-      (λ m x w top. (let there = climbs_self up2 m c up_b in
-      grind (arith, up_in x, up_off x, climbs_self up2 m c {v = x}, climbs_self up m c top)))
+  holds_same c v ne l = climbing (λ k x. climbs up2 k c x ≡ climbs up k c x) v l (search (rules, climbs_self))
       (λ m x w inner more. rw (up_off x (off_inner x inner)) (ap (λ (s : Bool). eqb x c || s) more))
 
   pub holds_new : (v : ℕ) → v < n → climbs up2 n b v ≡ inside (out v)
   holds_new v l = climbing (λ k x. climbs up2 k b x ≡ inside (out v)) v l
       (λ m x w top. (let x_is = fixed_top rank climb rises v l w top in
-      let here = climbs_here up2 m b in
       let ne = on_way_ne v x l w in
-      grind (arith, up_in x, up_off x, climbs_self up2 m b {v = x})))
-      (λ m x w inner more. rw (ne_eqb x b (on_way_ne v x l w), up_off x (off_inner x inner)) more)
+      grind (arith, up_in x, up_off x, climbs_self up2 m b {v = x}))) (search rules)
 
 -- What the tables of a nest say at once: the outermost blossoms are in use, and their leaders are theirs.
 
@@ -155,8 +145,7 @@ module _ {n size : ℕ} {hand top up rank parts leader first last following : Li
 
   -- A vertex in an outermost blossom has it as its own.
   pub held_out : (v w : ℕ) → v < n → w < n → climbs (up_at up) n (out v) w ≡ true → out w ≡ out v
-  held_out v w lv lw on = sym (fixed_top (λ x. get_or rank x 0) nest.climb nest.rises w lw
-      (climbs_place _ n (out v) w on) (nest.climb.tops v lv))
+  held_out v w lv lw on = sym (fixed_top _ nest.climb nest.rises w lw (climbs_place _ n _ w on) (nest.climb.tops v lv))
 
   -- The leader of an outermost blossom is one of its vertices.
   pub leader_low : (v : ℕ) → v < n → get_or leader (out v) 0 < n
@@ -177,9 +166,7 @@ module _ {n size : ℕ} {hand top up rank parts leader first last following : Li
       let mine = list_has_last (list_of v lv) in
       let low : get_or rank y 0 ≤ get_or rank (out (get_or last (out v) 0)) 0 = rank_passed _ y
       mine.0 (rw e at (list_member (nest.members y ly used) j (omega arith))) in
-      let same : get_or rank (out (get_or last (out v) 0)) 0 ≡ get_or rank (out v) 0 =
-      ap (λ x. get_or rank x 0) (held_out v _ lv mine.0 mine.1) in
-      omega arith
+      search (rules, held_out)
 
 -- One comes past where one comes to.
 pub came_past : (up : ℕ → ℕ) (k v x : ℕ) → walk up v k ≡ x → climbs up k x v ≡ true

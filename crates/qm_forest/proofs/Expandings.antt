@@ -1,12 +1,12 @@
 -- Blossoms of a ring that leave the tree, and the set that is closed of them; or that are matched, or hung into it.
-use Rattle.std.proofs.Common.{rules, ◌≡◌, ℕ, suc, ◌+◌, ◌-◌, ◌%◌, ◌<◌, Bool, List, add-one, eqb, length, get_or, Some}
-use Rattle.std.proofs.Common.{None, ◌∙◌, ◌≢◌, ◌*◌, ◌≤◌, true, refl, sym, ap, subst, inl, inr}
+use Rattle.std.proofs.Common.{rules, ◌≡◌, ℕ, suc, ◌-◌, ◌%◌, ◌<◌, Bool, eqb, length, get_or, Some}
+use Rattle.std.proofs.Common.{None, ◌∙◌, ◌≢◌, ◌*◌, true, refl, sym, ap, subst}
 use Rattle.{std.proofs.lemmas.List.get_or_read, qm_forest.specs.declared.expanding.Course.Course}
 use Rattle.def_forest.specs.Tables.{ForestTables, out_of, IsOutermostIn, forest_of, IsValidFor}
 use Rattle.def_forest.specs.{Forests.Forest, Forests.walk, declared.kinds.Label.TheVariants.Outside}
 use Rattle.def_forest.specs.{declared.kinds.Label.Label, Darts.Darts, Darts.darts_of, Opened.IsExpanding, Ways.dart_or}
 use Rattle.qm_forest.specs.Parts.{hung, paired, side_dart, turn_label, HasOpened, IsCourse, IsParted}
-use Rattle.qm_forest.specs.Ties.{AreTied, HiddenTables, HasSameNest, labelled, linked, mated, left_alone, fixed_of}
+use Rattle.qm_forest.specs.Ties.{AreTied, HiddenTables, HasSameNest, labelled, linked, mated, fixed_of}
 use Rattle.qm_forest.proofs.Openings.{CanOpen, are, inside as the_inside, in_tree, joined, mate_is, part_low, ring_from}
 use Rattle.qm_forest.proofs.{Openings.first_in, Openings.last_in, Openings.tree_is, Routes.expanding, Routes.laid}
 use Rattle.qm_forest.proofs.{Enclosed.leader_out, TiedWrites.outermost_low, OnWays.valid_as}
@@ -17,20 +17,9 @@ use Rattle.{def_matching.specs.Matching.WeightedGraph, forest_laws.specs.Walks.l
 pub outermost_kept : {t u : ForestTables} {x y : ℕ} → HasSameNest t u → x ≡ y → IsOutermostIn t y → IsOutermostIn u x
 outermost_kept same e w = rw (e, same.hand, same.top) w
 
--- The next place of the ring.
-pub next_place : (after : List ℕ) (front k : ℕ) {xs : List ℕ} {x y : ℕ} → xs ≡ after
-    → x ≡ walk (λ i. get_or after i 0) front k → y ≡ get_or xs x 0 → y ≡ walk (λ i. get_or after i 0) front (k + 1)
-next_place after front k same here next = rw (add-one k) (next ∙ rw (same, here))
-
 -- A place of the ring is the number of a blossom.
 pub place_low : {t u : ForestTables} (x y : ℕ) → HasSameNest t u → x ≡ y → y < length t.up → x < length u.up
 place_low {u} x y same e l = rw (e, same.up) l
-
--- One blossom more leaves, is matched, or hung into the tree.
-pub left_more : (f0 : Forest) {f1 f2 : Forest} (front k : ℕ) {j x : ℕ} (v : ℕ) → f1 ≡ left_alone f0 front k
-    → f2 ≡ mated (labelled f1 (f1.out v) Outside) x None → f1.out v ≡ x → x ≡ walk f0.nest.after front k → j ≡ suc k
-    → f2 ≡ left_alone f0 front j
-left_more f0 front k v e1 e2 v_is x_is j_is = e2 ∙ rw (v_is, x_is, e1, j_is)
 
 pub paired_more : (f0 : Forest) {f1 f2 : Forest} (front k : ℕ) {j before x dart : ℕ} → f1 ≡ paired f0 front k
     → f2 ≡ mated f1 x (Some dart) → dart ≡ side_dart f1 before x (eqb (k % 2) 1)
@@ -122,9 +111,6 @@ module _ {g : WeightedGraph} {t0 t2 : ForestTables} {b mate link first last many
   circle_at : (x : ℕ) → inside x ≡ true → IsCircle f2.nest.after x (f0.nest.parts b) inside
   circle_at = ring_from ready parted
 
-  pub some : 1 ≤ many
-  some = rw many_is (circle_at first first_marked).some
-
   pub places_low : (k : ℕ) → k < many → walk f2.nest.after first k < length t2.up
   places_low k l = rw parted.size (part_low ready _ ((circle_at first first_marked).marked k))
 
@@ -145,8 +131,7 @@ module _ {g : WeightedGraph} {t0 t2 : ForestTables} {b mate link first last many
     module _ {course : Course} (way : IsCourse (forest_of t3).nest.after first last many course) where
       pub tops3 : (k : ℕ) → k < course.many → IsOutermostIn t3 (walk (forest_of t3).nest.after course.front k)
       tops3 k l =
-          let front : inside course.front ≡ true =
-          elim way.way [ inl w ↦ ap inside w.1 ∙ first_marked | inr w ↦ ap inside w.1 ∙ last_marked ] in
+          let front : inside course.front ≡ true = search (rules, first_marked, last_marked) in
           let j = joined ready parted _ ((circle_at _ front).marked k) in
           outermost_kept same3 (at3 _ k) (d.near _, vertex_low ready opened _ _ refl j.tight.low, j.near_part)
 

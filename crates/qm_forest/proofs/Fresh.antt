@@ -1,42 +1,33 @@
 -- Climbing from two vertices of one blossom until one meets: what is passed on the way is what lies around just one.
 use Rattle.std.proofs.Common.{rules, ◌≡◌, ◌≢◌, ℕ, zero, suc, ◌+◌, ◌*◌, ◌<◌, ◌≤◌, ◌^◌, Bool, true, false, not, cond, eqb}
-use Rattle.std.proofs.Common.{◌||◌, ℤ, pos, ◌+ℤ◌, refl, sym, ◌∙◌, ap, arith, count_by, is_some, ◌-◌, ◌/◌, ◌%◌, ◌⊎◌}
-use Rattle.std.proofs.Common.{Option, Some, None, inl, inr, max, List, length, get_or, replicate, ◌*ℤ◌, ◌≤ℤ◌, [], ◌∷◌}
+use Rattle.std.proofs.Common.{◌||◌, ℤ, pos, ◌+ℤ◌, refl, sym, ◌∙◌, ap, arith, count_by, ◌-◌, ◌/◌, ◌%◌, ◌⊎◌}
+use Rattle.std.proofs.Common.{Some, None, inl, inr, max, List, length, get_or, replicate, ◌*ℤ◌, ◌≤ℤ◌, [], ◌∷◌}
 use Rattle.std.proofs.lemmas.Bool.{cond-true, eq-eqb, eqb-true, cases_eq, ne_eqb}
 use Rattle.std.proofs.{lemmas.Int.ints, lemmas.List.get_or-replicate, lemmas.List.length-replicate}
 use Rattle.std.proofs.{lemmas.List.get_or_past, lemmas.List.Folds.sum_by-replicate, lemmas.List.Sums.sum_by-cons}
 use Rattle.sum_laws.proofs.Sums.{total_below_same, total_below_sum, total_below_one, total_below_none, count_below_none}
-use Rattle.def_forest.specs.Forests.{splits, walk, live_at, weight_between, dual_sum_of}
+use Rattle.def_forest.specs.Forests.{splits, walk, weight_between, dual_sum_of}
 use Rattle.def_forest.specs.Tables.{climbs, size_of, ForestTables, forest_of, up_at, label_at, out_of, IsValidFor}
 use Rattle.def_forest.specs.{Darts.darts_of, Steps.weight_change, Valid.AreOutermost, declared.kinds.Label.Label}
 use Rattle.def_forest.specs.{declared.kinds.Label.TheVariants.Outside, Needs.AreFeasible}
 use Rattle.forest_laws.proofs.{Walks.walk_fixed, Walks.walk_front, Walks.walk_sum, Grows.by_same, Grows.true_false}
-use Rattle.forest_laws.proofs.{Grows.load_across, Bounds.eqb_order, Bounds.near_even, Bounds.near_odd, Bounds.twin_even}
-use Rattle.forest_laws.proofs.{Bounds.twin_odd}
+use Rattle.forest_laws.proofs.{Grows.load_across, Bounds.eqb_order, Bounds.near_even, Bounds.near_odd, Bounds.twin_odd}
 use Rattle.qm_forest.specs.Ties.{IsClimb, apart, AreTied, HiddenTables, IsFresh, AreStarts, HasLowCosts, IsGreatestTo}
 use Rattle.qm_forest.specs.Ties.{IsLowered, potential, added, relabelled}
 use Rattle.qm_forest.proofs.TiedWrites.{sum_small, read_nat, tied_as, numbers_as, sizes_kept}
 use Rattle.def_matching.specs.{Matching.WeightedGraph, Matching.IsGraph, Matching.edge_at}
 use Rattle.def_matching.specs.{declared.weighted.WEdge.WEdge}
-use Rattle.{std.specs.Prelude.unsigned_abs, qm_pool.specs.declared.pool.Node.Node}
+use Rattle.std.specs.Prelude.{unsigned_abs}
 
 -- What is passed twice.
 pub or_twice : (a : Bool) → (a || a) ≡ a
 or_twice a = grind arith
-
-pub none_either : (s : Bool) → ◌≡◌ {A = ℕ} (cond s 0 0) 0
-none_either s = grind arith
 
 -- One step more passes nothing new where one has come to stay.
 climbs_last : (up : ℕ → ℕ) (m b y : ℕ) → up (walk up y m) ≡ walk up y m → climbs up (suc m) b y ≡ climbs up m b y
 climbs_last up zero b y e = ap (λ x. eqb y b || eqb x b) e ∙ or_twice (eqb y b)
 climbs_last up (suc m) b y e = ap (λ x. eqb y b || x)
     (climbs_last up m b (up y) (ap up (sym (walk_front up y m)) ∙ (e ∙ walk_front up y m)))
-
--- What is passed by a step: what is one of the two, where it is around neither from then on.
-one_passed : (e s w : Bool) (z : ℤ) → (e ≡ true → s ≡ false) → (e ≡ true → w ≡ false)
-    → cond (cond (e || s) (not w) w) z (pos 0) ≡ cond (cond s (not w) w) z (pos 0) +ℤ cond e z (pos 0)
-one_passed e s w z off out = grind (arith, ints)
 
 module _ {n : ℕ} {up : ℕ → ℕ} (rank : ℕ → ℕ) {out : ℕ → ℕ} (climb : IsClimb n up out) (rises : (x : ℕ) → up x ≢ x
     → rank x < rank (up x)) where
@@ -81,18 +72,11 @@ module _ {n : ℕ} {up : ℕ → ℕ} (rank : ℕ → ℕ) {out : ℕ → ℕ} (
       by_size : (m : ℕ) → n ≡ m → climbs up n b x ≡ (eqb x b || climbs up n b (up x))
       by_size zero e = absurd (omega arith)
       by_size (suc m) e =
-          let fuel : climbs up n b x ≡ (eqb x b || climbs up m b (up x)) = ap (λ k. climbs up k b x) e in
           let here = sym (walk_front up x m) ∙ (ap (walk up x) (sym e) ∙ comes_out v x l w) in
           cc (climbs_last up m b (up x) (ap up here ∙ (climb.tops v l ∙ sym here)))
 
   module _ (weight : ℕ → ℤ) (size : ℕ) (u v x y : ℕ) (lu : u < n) (wx : OnWayFrom u x) (ne : x ≢ y)
       (le : rank x ≤ rank y) (inner : up x ≢ x) (low : x < size) where
-    not_from_y : climbs up n x y ≡ false
-    not_from_y = grind (arith, passed_rank n x y)
-
-    not_further : climbs up n x (up x) ≡ false
-    not_further = grind (arith, passed_rank n x (up x), rises x)
-
     -- What a blossom weighs that is around just one of two, and x alone.
     abbrev part : ℕ → ℕ → ℤ
     part z b = cond (splits (climbs up n b) z y) (weight b) (pos 0)
@@ -101,8 +85,7 @@ module _ {n : ℕ} {up : ℕ → ℕ} (rank : ℕ → ℕ) {out : ℕ → ℕ} (
     own b = cond (eqb b x) (weight b) (pos 0)
 
     term : (b : ℕ) → part x b ≡ part (up x) b +ℤ own b
-    term b = rw (climbs_step u x b lu wx, eqb_order x b) (one_passed (eqb b x) (climbs up n b (up x)) (climbs up n b y)
-        (weight b) (λ e. rw (eqb-true b x e) not_further) (λ e. rw (eqb-true b x e) not_from_y))
+    term b = rw (climbs_step u x b lu wx, eqb_order x b) (search (rules, passed_rank))
 
     -- The lower climbs: its weight is passed.
     pub apart_step : apart n up weight size x y ≡ apart n up weight size (up x) y +ℤ weight x
@@ -144,10 +127,6 @@ module _ {t : ForestTables} {hid : HiddenTables} (tied : AreTied t hid)
   abbrev pub forgotten : ForestTables
   forgotten = record t { root = None; delta = pos 0; trail = trail }
 
-  -- No mark is left.
-  none_marked : (v : ℕ) → get_or marks v false ≡ false
-  none_marked v = search rules
-
   unmoved : (b : ℕ) (d : ℤ) → weight_change (label_at t.label b) d ≡ pos 0
   unmoved b d = ap (λ (l : Label). weight_change l d) (all_outside b)
 
@@ -165,8 +144,8 @@ module _ {t : ForestTables} {hid : HiddenTables} (tied : AreTied t hid)
         +ℤ x) (unmoved _ (pos 0) ∙ sym (unmoved _ t.delta))) (omega arith, tied.numbers.risen.0) (λ none. refl);
     trail = record {
       low = λ k l. absurd (omega arith);
-      counted = empty ∙ sym (none_counted marks none_marked);
-      marked = λ v on. absurd (true_false on (none_marked v));
+      counted = empty ∙ sym (none_counted marks (search rules));
+      marked = λ v on. absurd (true_false on (search rules));
       named = λ b named. absurd (named (all_outside b));
     };
     pool = tied.pool;
@@ -205,9 +184,8 @@ module _ {n size : ℕ} {lows : List ℤ} {t : ForestTables} {hid : HiddenTables
   holds_is b v = climbs_self _ _ b (up_self v)
 
   potential_is : (v : ℕ) → v < n → potential (forest_of t) v ≡ get_or lows v (pos 0)
-  potential_is v l = total_below_one (λ b. cond ((forest_of t).holds b v) ((forest_of t).weight b) (pos 0))
-      (length t.up) v (rw fresh.up.size (omega arith)) (λ k lk ne. grind (arith, holds_is k v))
-      ∙ grind (arith, holds_is v v, weight_is v)
+  potential_is v l = total_below_one _ (length t.up) v (rw fresh.up.size (omega arith))
+      (λ k lk ne. grind (arith, holds_is k v)) ∙ grind (arith, holds_is v v, weight_is v)
 
   added_is : (v : ℕ) → added t.hand t.top hid.off t.label t.delta v ≡ pos 0
   added_is v = search (rules, same_everywhere)
@@ -225,29 +203,19 @@ module _ {n size : ℕ} {lows : List ℤ} {t : ForestTables} {hid : HiddenTables
     outs = λ h l. (let lh : h < n = rw fresh.top.size at l in rw (fresh.top.each h lh) (omega arith));
     ups = λ b l. rw (fresh.up.each b l) l;
     climb = record { ends = λ v l. walk_fixed _ n (up_self v) ∙ sym (out_is v l); tops = λ v l. up_self _ };
-    led = λ v l. fresh.hand.each v l ∙ (sym (fresh.lists.0.each v (omega arith))
-        ∙ ap (λ b. get_or hid.leader b 0) (sym (out_is v l)));
-    leaders = λ x lx used. (let e = fresh.lists.0.each x lx in
-        (rw e (used_low x used), climbs_self _ n x (up_self _) ∙ eq-eqb (get_or hid.leader x 0) x e));
+    led = search rules;
+    leaders = search (rules, used_low);
     members = λ x lx used. (let l = used_low x used in
-        rw (rank_is x l, fresh.lists.2.each x lx, fresh.lists.1.each x lx) (record {
-          all = λ v lv. eqb_order x v ∙ sym (climbs_self _ n x (up_self v));
-          low = λ k lk. (let z : k ≡ 0 = omega arith in rw z l);
-          distinct = λ i j lij lj. absurd (omega arith);
-          ends = λ k e. (let z : k ≡ 0 = omega arith in rw z);
-          some = omega arith;
-        }));
+        search (rules, rank_is, climbs_self));
     ended = λ x y k lx ly ux uy l e. absurd (omega (arith, rank_is y (used_low y uy)));
     idle = λ x high none. up_self x;
     rises = λ x inner. absurd (inner (up_self x));
     around = λ x inner. absurd (inner (up_self x));
   }) (record {
-    potentials = λ v l. potential_is v (omega arith) ∙ (let e =
-        ap (λ (xs : List ℤ). get_or xs v (pos 0)) fresh.kept in omega (arith, ints, e, added_is v));
+    potentials = λ v l. potential_is v (omega arith) ∙ (search (rules, added_is));
     small = λ b. omega (arith, ints, weight_is b, small b);
     start = dual_sum_of (forest_of t);
-    small_start = (let sum = sum_small (forest_of t).weight (length t.up)
-        (λ k l. omega (arith, ints, weight_is k, small k)) in omega (arith, ints, fresh.up.size, fresh.few));
+    small_start = search (rules, sum_small);
     moved = λ v l. omega (arith, ints, added_is v);
     risen = omega (arith, ints, fresh.delta);
     still = λ none. fresh.delta;
@@ -256,17 +224,7 @@ module _ {n size : ℕ} {lows : List ℤ} {t : ForestTables} {hid : HiddenTables
     counted = fresh.trail ∙ sym (none_counted hid.touched (same_everywhere n false fresh.touched));
     marked = λ v on. absurd (true_false on (same_everywhere n false fresh.touched v));
     named = λ b named. absurd (named (label_is b));
-  }) (record {
-    room = omega (arith, long_as (n / 2) _ fresh.pool, fresh.size_is);
-    half = long_as (n / 2) _ fresh.pool;
-    free = λ k is. same_everywhere size 0 fresh.parts (n + k);
-    live = λ k live. absurd (live (same_everywhere size 0 fresh.parts (n + k)));
-    vertices = λ v l. same_everywhere size 0 fresh.parts v;
-    counted = ap (count_by is_some) fresh.pool ∙ (sum_by-replicate (λ (o : Option Node). cond (is_some o) 1 0) (n / 2)
-        None ∙ ((let e : (n / 2) * 0 ≡ 0 = omega arith in e) ∙ sym (count_below_none
-        (live_at n (λ i. get_or t.parts i 0)) size
-        (λ x l. rw (same_everywhere size 0 fresh.parts x) (none_either _)))));
-  })
+  }) (search (rules, long_as, same_everywhere, sum_by-replicate, count_below_none))
 
   module _ (g : WeightedGraph) (is : IsGraph g) (n_is : n ≡ g.n) (costs : AreFeasible g lows) where
     outs : (v : ℕ) → v < g.n → (forest_of t).out v ≡ v
@@ -305,10 +263,7 @@ module _ {n size : ℕ} {lows : List ℤ} {t : ForestTables} {hid : HiddenTables
         feasible = record {
           sets = λ b high low. rw (weightless b high) (omega arith);
           darts = λ d low. (let l : d / 2 < length g.edges = omega arith in elim (cases_eq (d % 2) 0) [
-            | inl even ↦ (let far = near_odd g (d + 1) (d / 2) (omega arith) in
-                rw (near_even g d (d / 2) (omega arith), ap (darts_of g).near (twin_even d even) ∙ far)
-                (feasible_dart _ _ _ (is.left (d / 2) l) (is.right (d / 2) l) (is.apart (d / 2) l)
-                (costs.edges (d / 2) l)))
+            | inl even ↦ search (rules, near_odd, near_even, darts_of, feasible_dart)
             | inr odd ↦ (let far = near_even g (d - 1) (d / 2) (omega arith) in
                 rw (near_odd g d (d / 2) (omega arith), ap (darts_of g).near (twin_odd d odd) ∙ far)
                 (feasible_dart _ _ _ (is.right (d / 2) l) (is.left (d / 2) l) (λ e. is.apart (d / 2) l (sym e))

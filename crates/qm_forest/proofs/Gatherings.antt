@@ -2,26 +2,25 @@
 -- what each loop needs, and the tie and the forest after all of them.
 use Rattle.std.proofs.Common.{rules, ◌≡◌, ◌≢◌, ℕ, suc, ◌-◌, ◌<◌, ◌≤◌, ◌^◌, Bool, true, false, cond, eqb, List, length}
 use Rattle.std.proofs.Common.{get_or, pos, Option, Some, None, refl, sym, ◌∙◌, ap, subst, inl, inr, length-set}
-use Rattle.std.proofs.Common.{get_or-set_same, get_or-set_other, arith}
+use Rattle.std.proofs.{Common.get_or-set_same, Common.get_or-set_other, Common.arith, Math.ListN.set, lemmas.Int.ints}
+use Rattle.std.proofs.{lemmas.List.get_or_past, lemmas.Option.slice_get_within, lemmas.Grind.common_steps}
 use Rattle.std.proofs.lemmas.Bool.{cases_eq, cases_Bool, cond-true, cond-false, eq-eqb, eqb-true}
-use Rattle.std.proofs.{Math.ListN.set, lemmas.Int.ints, lemmas.List.get_or_past, lemmas.Option.slice_get_within}
-use Rattle.std.proofs.{lemmas.Grind.common_steps}
 use Rattle.def_forest.specs.Tables.{ForestTables, forest_of, climbs, label_at, out_of, up_at}
-use Rattle.def_forest.specs.{Forests.walk, Forests.ring_sum, Forests.set_at, declared.kinds.Label.TheVariants.Outside}
-use Rattle.forest_laws.specs.Walks.{listed}
+use Rattle.def_forest.specs.Forests.{walk, ring_sum, set_at}
 use Rattle.forest_laws.proofs.Walks.{listed_at, listed_off, listed_place, writes_all, writes_at, writes_off}
 use Rattle.qm_forest.specs.Gathers.{AreEnclosed, AreJoinable, AreJoined, HasListAt, HasListsOf, HasRenamedRow}
 use Rattle.qm_forest.specs.Gathers.{IsFreeRing, IsGathered, TookSet, root_around}
-use Rattle.qm_forest.specs.{Ties.AreTied, Ties.HiddenTables, Ties.IsInUse, Ties.IsLaidOut, Ties.IsListed}
 use Rattle.qm_forest.specs.{Views.tables_of, Views.hidden_of, declared.forest.Forest.TheInside.Inside}
 use Rattle.qm_forest.specs.{declared.tables.Handles.Handles, declared.tables.Lists.Lists, declared.tables.Rings.Rings}
+use Rattle.qm_forest.specs.Ties.{AreTied, HiddenTables, IsInUse, IsLaidOut, IsListed}
 use Rattle.qm_forest.proofs.Enclosed.{Enclosing, climb_enclosed, holds_new, holds_same, came_past, held_out, last_free}
 use Rattle.qm_forest.proofs.Enclosed.{leader_low, leader_out, out_used, rank_few, rank_passed, rank_some, reached_used}
+use Rattle.qm_forest.proofs.{Shrinkings.seen_in, Shrinkings.hidden_in, Waitings.pool_changed}
 use Rattle.qm_forest.proofs.JoinedLists.{list_agrees, list_few, list_has_last, list_member, list_renamed, row_few}
 use Rattle.qm_forest.proofs.JoinedLists.{row_joined, walk_agrees, ring_sum_above}
 use Rattle.qm_forest.proofs.TiedWrites.{numbers_kept, tied_as, trail_kept, added_small, change_small, delta_small}
 use Rattle.qm_forest.proofs.TiedWrites.{outermost_low, read_nat, told_small, entry_set}
-use Rattle.qm_forest.proofs.{Shrinkings.seen_in, Shrinkings.hidden_in, Waitings.pool_changed}
+use Rattle.{def_forest.specs.declared.kinds.Label.TheVariants.Outside, forest_laws.specs.Walks.listed}
 use Rattle.{std.specs.Prelude.unsigned_abs, qm_pool.specs.declared.pool.Node.Node, sum_laws.proofs.Tests.same_test}
 
 module _ {t : ForestTables} {hid : HiddenTables} (tied : AreTied t hid) where
@@ -31,8 +30,7 @@ module _ {t : ForestTables} {hid : HiddenTables} (tied : AreTied t hid) where
       omega (arith, ints, added_small tied v lv, delta_small tied)
 
   pub q_small : (v : ℕ) → unsigned_abs (get_or hid.q v (pos 0)) ≤ 2 ^ 97
-  q_small v =
-      grind (arith, ints, told_small tied v, added_small tied v, get_or_past hid.q v (pos 0), tied.sizes.q)
+  q_small v = grind (arith, ints, told_small tied v, added_small tied v, get_or_past hid.q v (pos 0), tied.sizes.q)
 
 -- The list of a blossom, as the loops read it.
 pub list_read : (s : Inside) {x to : ℕ} {set : ℕ → Bool} → AreTied (seen_in s) (hidden_in s)
@@ -139,8 +137,7 @@ module _ {s : Inside} {pool2 : List (Option Node)} {front many b : ℕ} (taken :
       let w = ring.tops k l in
       list_renamed (λ v. eqb (out v) (at k)) (tied.nest.members (at k) (ring.row.low k l) (row_used k l))
       (λ v lv. same_test _ _ (λ on. eq-eqb (out v) (at k) (held_out tied.nest w.0 v w.1 lv
-      (ap (λ y. climbs (up_at t.up) n y v) w.2 ∙ on) ∙ w.2)) (λ same. came_past (up_at t.up) n v (at k)
-      (tied.nest.climb.ends v lv ∙ eqb-true (out v) (at k) same)))
+      (ap (λ y. climbs (up_at t.up) n y v) w.2 ∙ on) ∙ w.2)) (search (rules, came_past)))
 
   row_ended : (k y j : ℕ) → k < many → y < length t.up → IsInUse n t.parts y → suc j < rank y
       → walk next (first y) j ≢ last (at k)
@@ -193,9 +190,8 @@ module _ {s : Inside} {pool2 : List (Option Node)} {front many b : ℕ} (taken :
     -- The tables after the loops: the ring's vertices got one handle, its lists were joined, and set b is around it.
     module _ {h2 : Handles} {l2 : Lists} {r2 : Rings} {root2 : Option ℕ} {handle2 : ℕ}
         (renamed : HasRenamedRow s.handles h2 s.lists s.rings.after.items front many big)
-        (joined : AreJoined s.lists l2 s.rings.after.items front many b)
-        (enclosed : AreEnclosed s.rings r2 front many b)
-        (root_is : root2 ≡ root_around r2.up.items b s.tree.root) (handle_is : handle2 ≡ handle) where
+        (joined : AreJoined s.lists l2 s.rings.after.items front many b) (enclosed : AreEnclosed s.rings r2 front many
+        b) (root_is : root2 ≡ root_around r2.up.items b s.tree.root) (handle_is : handle2 ≡ handle) where
       abbrev next2 : ℕ → ℕ
       next2 v = get_or l2.following.items v 0
 
@@ -245,20 +241,17 @@ module _ {s : Inside} {pool2 : List (Option Node)} {front many b : ℕ} (taken :
       -- Each old list stays, and those of the row are joined.
       old_next : (y : ℕ) → y < length t.up → IsInUse n t.parts y → (k : ℕ) → suc k < rank y
           → next2 (walk next (first y) k) ≡ next (walk next (first y) k)
-      old_next y ly used k lk = ap (λ (f : ℕ → ℕ). f (walk next (first y) k)) joined.following
-          ∙ writes_off next (λ j. last (at j)) (λ j. first (at (suc j))) (many - 1) _
-          (λ j lj same. row_ended j y k (omega (arith, lj)) ly used lk (sym same))
+      old_next y ly used k lk = ap (λ (f : ℕ → ℕ). f (walk next (first y) k)) joined.following ∙ writes_off next
+          (λ j. last (at j)) _ _ _ (λ j lj same. row_ended j y k (omega (arith, lj)) ly used lk (sym same))
 
       new_list : IsListed n next2 (first front) (last (at (many - 1))) total (λ v. inside (out v))
       new_list =
           let whole : suc (many - 1) ≡ many = omega arith in
-          subst (λ m. IsListed n next2 (first front) (last (at (many - 1)))
-          (ring_sum (λ i. get_or t.after i 0) rank front m) (λ v. listed (λ i. get_or t.after i 0) front m (out v)))
-          whole (row_joined n next2 _ first last rank front many out ring.row.distinct (λ k lk. list_agrees next2
-          (own_list k lk) (old_next (at k) (ring.row.low k lk) (row_used k lk))) (λ k lk.
-          ap (λ (f : ℕ → ℕ). f (last (at k))) joined.following ∙ writes_at next (λ j. last (at j))
-          (λ j. first (at (suc j))) (many - 1) k (omega (arith, lk)) (λ i j lij lj same. ring.row.distinct i j lij
-          (omega (arith, lj)) (sym (last_in i (omega (arith, lij, lj))).1
+          subst (λ m. IsListed n next2 (first front) (last (at (many - 1))) (ring_sum (λ i. get_or t.after i 0) rank
+          front m) (λ v. listed (λ i. get_or t.after i 0) front m (out v))) whole (row_joined n _ _ first last rank _ _
+          _ ring.row.distinct (λ k lk. list_agrees _ (own_list k lk) (old_next _ (ring.row.low k lk) (row_used k lk)))
+          (λ k lk. ap (λ (f : ℕ → ℕ). f (last (at k))) joined.following ∙ writes_at next _ _ _ k (omega (arith, lk))
+          (λ i j lij lj same. ring.row.distinct i j lij (omega (arith, lj)) (sym (last_in i (omega (arith, lij, lj))).1
           ∙ (ap out same ∙ (last_in j (omega (arith, lj))).1)))) _ (omega arith))
 
       row_rank : (x : ℕ) → inside x ≡ true → rank x < total
@@ -325,10 +318,8 @@ module _ {s : Inside} {pool2 : List (Option Node)} {front many b : ℕ} (taken :
             idle = λ x hx none. (let used : inside x ≡ true → IsInUse n t.parts x = λ marked. (let v = in_row x marked
                 in subst (IsInUse n t.parts) v.2 (out_used tied.nest v.0 v.1)) in
                 grind (arith, ups x, parts_b, ring.two, parts_old x, tied.nest.idle x));
-            around = λ x inner. (let was = tied.nest.around x in
-                grind (arith, ups x, high, parts_b, ring.two, parts_old (up_at t.up x), dead));
-            rises = λ x inner. (let there = ups b in
-                let was = tied.nest.rises x in
+            around = λ x inner. (grind (arith, ups x, high, parts_b, ring.two, parts_old (up_at t.up x), dead));
+            rises = λ x inner. (let was = tied.nest.rises x in
                 grind (arith, ups x, rank_b, rank_old x, rank_old (up_at t.up x), unused x, b_off, alone, row_rank x));
           }
 
@@ -362,8 +353,7 @@ module _ {s : Inside} {pool2 : List (Option Node)} {front many b : ℕ} (taken :
                 (handle, handle_at.0, rw (hand.1, hand.0, b_outside, (in_row _ big_in).4, handle_at.2)))
             | inr off ↦ (v, lv, rw ((hand_off v lv off).1, (hand_off v lv off).0))
           ]))
-          (trail_kept tied.trail (λ v lv named. elim (cases_Bool (inside (out v)))
-          [ inl marked ↦ absurd (named (in_row (out v) marked).4) | inr off ↦ (hand_off v lv off).1 ]))
+          (trail_kept tied.trail (search (rules, in_row, hand_off)))
           (rw (enclosed.parts, took.taken) (pool_changed tied.pool took.id high set_low tied.sizes.parts took.is
           took.free (inl (refl, dead)) _ many (inr (took.node, refl, (λ z. absurd (omega arith)))))))
 
@@ -382,8 +372,7 @@ module _ {s : Inside} {pool2 : List (Option Node)} {front many b : ℕ} (taken :
           λ x. rw enclosed.head (ap (λ (f : ℕ → ℕ). f x) (entry_set t.head b front 0 (rw tied.sizes.head set_low))) in
           let parts : (x : ℕ) → get_or r2.parts.items x 0 ≡ set_at (λ y. get_or t.parts y 0) b many x =
           λ x. rw enclosed.parts (ap (λ (f : ℕ → ℕ). f x) (entry_set t.parts b many 0 (rw tied.sizes.parts set_low))) in
-          rw (enclosed.after, enclosed.joint, renamed.top, handle_is)
-          (assumption (high, set_low, dead, alone, unused, no_out, b_outside, out_new, at_old _ _ joined.rank))
+          search (rules, set_low, no_out, b_outside, out_new)
 
       -- The root's blossom is enclosed where it is in the row.
       pub root_after : (x : ℕ) → s.tree.root ≡ Some x → root2 ≡ Some (cond (inside x) b x)

@@ -92,7 +92,6 @@ module _ {g : WeightedGraph} (is : IsSmallGraph g) {s : ForestTables} (valid : I
     both_order : {x y i j : ℕ} → IsClimbing darts f a c x y i j → low - j ≤ high - i → level c - j ≤ level a - i
     both_order is order =
         let left = is.left high low both.left_low both.right_low both.met in
-        let right = is.right high low both.left_low both.right_low both.met in
         let met = ap level both.met in
         omega (arith, (way_on a named_a high both.left_low).1, (way_on c named_c low both.right_low).1)
 
@@ -230,9 +229,6 @@ placed {t} tied = grind (
 module _ {t : ForestTables} (it : IsPlaced t) {g : WeightedGraph} (valid : IsSoundFor g t) {n : ℕ} {round : Round}
     {sets y z : ℕ} (blank : IsBlank n round sets y z) {s : GraphSize} (view_is : ◌≡◌ {A = GraphSize}
     (record { vertices = n; edges = length round.marks.items }) s) (room : s ≡ size_of g) where
-  n_is : n ≡ length t.hand
-  n_is = ap (λ (r : GraphSize). r.vertices) (view_is ∙ room) ∙ sym valid.vertices
-
   pub has_room : HasRoom t round
   has_room = search (rules, length-replicate)
 

@@ -1,17 +1,16 @@
 -- Sums and writes along a row; handing the vertices of the parts of a set over to their own leaders, part after part;
 -- and lists that are joined.
 use Rattle.std.proofs.Common.{rules, ◌≡◌, ℕ, zero, suc, ◌<◌, List, length, get_or, ℤ, pos, refl, sym, ◌∙◌, ap, arith}
-use Rattle.std.proofs.Common.{length-set, ◌≢◌, ◌+◌, ◌-◌, ◌≤◌, Bool, true, false, cond, eqb, ◌||◌, inl, inr}
+use Rattle.std.proofs.Common.{length-set, ◌≢◌, ◌+◌, ◌-◌, ◌≤◌, Bool, true, cond, eqb, ◌||◌, inl, inr}
 use Rattle.std.proofs.lemmas.Bool.{cond-false, cases_eq, cases_lt, eq-eqb, ne_eqb, eqb-true}
 use Rattle.def_forest.specs.Forests.{walk, set_at, bool_number, ring_sum}
-use Rattle.qm_forest.specs.{Parts.HasHandedOver, Parts.HasHandedRow, Parts.HasOwnLeader, Parts.HasPartLists}
+use Rattle.qm_forest.specs.Parts.{HasHandedOver, HasHandedRow, HasOwnLeader, HasPartLists}
 use Rattle.qm_forest.specs.{Gathers.HasListAt, declared.tables.Handles.Handles, declared.tables.Lists.Lists}
-use Rattle.qm_forest.specs.{Ties.IsListed}
-use Rattle.qm_forest.proofs.{RenamedRows.list_kept, TiedWrites.entry_set}
-use Rattle.sum_laws.proofs.{Sums.count_below_le, Sums.count_below_one, Sums.count_below_ones, Sums.count_below_same}
-use Rattle.sum_laws.proofs.{Tests.once_at_most}
+use Rattle.sum_laws.proofs.Sums.{count_below_le, count_below_one, count_below_ones, count_below_same}
 use Rattle.forest_laws.proofs.Walks.{walk_sum, listed_at, listed_place, listed_parts, listed_sum}
-use Rattle.forest_laws.proofs.{Odds.counts_exchanged, Bounds.eqb_order}
+use Rattle.{qm_forest.specs.Ties.IsListed, qm_forest.proofs.RenamedRows.list_kept}
+use Rattle.{qm_forest.proofs.TiedWrites.entry_set, sum_laws.proofs.Tests.once_at_most}
+use Rattle.{forest_laws.proofs.Odds.counts_exchanged, forest_laws.proofs.Bounds.eqb_order}
 use Rattle.{forest_laws.specs.Walks.writes, forest_laws.specs.Walks.listed, def_math.specs.Counts.count_below}
 
 -- A sum over fewer places is no greater.
@@ -85,17 +84,15 @@ module _ {h0 h1 : Handles} {lists : Lists} {after : List ℕ} {front many set' k
       → HasHandedRow h0 h2 lists after front j set'
   row_more {h2} {j} j_is one' = (rw j_is (record {
     own = λ i v li on. grind (arith, one.hand v, has.apart i k v, done.own i v);
-    other = λ v off. one.hand v ∙ (cond-false _ _ _ (off k (omega arith)) ∙ done.other v (λ i li. off i (
-        omega (arith, li))));
+    other = λ v off. one.hand v ∙ (cond-false _ _ _ (off k (omega arith)) ∙ done.other v (search rules));
     q = λ v. one.q v ∙ done.q v;
     hands = one.hands ∙ done.hands;
     qs = one.qs ∙ done.qs;
-    top = ap (λ xs i. get_or xs i 0) one.top ∙ (entry_set h1.top.items mine (at k) 0 (rw done.tops (has.tops k l))
+    top = ap (λ xs i. get_or xs i 0) one.top ∙ (entry_set h1.top.items _ (at k) 0 (rw done.tops (has.tops k l))
         ∙ ap (λ (f : ℕ → ℕ). set_at f mine (at k)) done.top);
     tops = ap length one.top ∙ (length-set h1.top.items mine (at k) ∙ done.tops);
-    off = ap read one.off ∙ (entry_set h1.off.items mine (read h1.off.items leader) (pos 0)
-        (rw (done.offs ∙ has.offs) (has.tops k l)) ∙ (ap (set_at (read h1.off.items) mine) set_off
-        ∙ ap (λ (f : ℕ → ℤ). set_at f mine (read h0.off.items leader)) done.off));
+    off = ap read one.off ∙ (entry_set _ mine _ (pos 0) (rw (done.offs ∙ has.offs) (has.tops k l))
+        ∙ (ap (set_at _ mine) set_off ∙ ap (λ (f : ℕ → ℤ). set_at f mine (read h0.off.items leader)) done.off));
     offs = ap length one.off ∙ (length-set h1.off.items mine (read h1.off.items leader) ∙ done.offs);
   }))
     where
@@ -103,8 +100,7 @@ module _ {h0 h1 : Handles} {lists : Lists} {after : List ℕ} {front many set' k
       one = rw x_is at one'
 
       set_off : read h1.off.items leader ≡ read h0.off.items leader
-      set_off = ap (λ (f : ℕ → ℤ). f leader) done.off
-          ∙ writes_keep (read h0.off.items) (λ i. get_or lists.leader.items (at i) 0) leader k
+      set_off = ap (λ (f : ℕ → ℤ). f leader) done.off ∙ writes_keep _ (λ i. get_or lists.leader.items (at i) 0) _ k
 
 -- Lists of vertices that are joined one after another.
 
@@ -154,13 +150,11 @@ list_has_last {n} {next} {from} {to} {many} {set} is = search rules
 pub list_count : {n : ℕ} {next : ℕ → ℕ} {from to many : ℕ} {set : ℕ → Bool} → IsListed n next from to many set
     → count_below (λ v. bool_number (set v)) n ≡ many
 list_count {n} {next} {from} {many} {set} is =
-    let sum = count_below_same (λ v. bool_number (set v)) (λ v. ring_sum next (λ p. bool_number (eqb v p)) from many) n
-    (λ v l. ap bool_number (sym (is.all v l)) ∙ listed_sum next from many v is.distinct) in
+    let sum = count_below_same _ _ n (λ v l. ap bool_number (sym (is.all v l)) ∙ listed_sum _ _ _ v is.distinct) in
     omega (arith, sum, counts_exchanged next (λ p v. bool_number (eqb v p)) from n many, ones many (omega arith))
   where
     one : (p : ℕ) → p < n → count_below (λ v. bool_number (eqb v p)) n ≡ 1
-    one p l = count_below_one (λ v. bool_number (eqb v p)) n p l (λ k lk ne. ap bool_number (ne_eqb k p ne))
-        ∙ ap bool_number (eq-eqb p p refl)
+    one p l = count_below_one _ n p l (λ k lk ne. ap bool_number (ne_eqb k p ne)) ∙ ap bool_number (eq-eqb p p refl)
 
     ones : (k : ℕ) → k ≤ many → ring_sum next (λ p. count_below (λ v. bool_number (eqb v p)) n) from k ≡ k
     ones zero l = refl
@@ -177,10 +171,7 @@ pub list_joined : {n : ℕ} {next : ℕ → ℕ} {a b m c d k : ℕ} {s t : ℕ 
 list_joined {n} {next} {a} {b} {m} {c} {d} {k} {s} {t} one two seam apart = record {
   all = λ v l. listed_parts next a m k v ∙ (cc (one.all v l, turn, two.all v l));
   low = λ i l. elim (cases_lt i m) [ inl li ↦ one.low i li | inr h ↦ rw (past i h) (two.low (i - m) (omega arith)) ];
-  distinct = λ i j lij lj e. (let met = apart (walk next a i) in
-      let first = one.distinct i j in
-      let second = two.distinct (i - m) (j - m) in
-      grind (arith, past i, past j, list_member one i, list_member two (j - m)));
+  distinct = λ i j lij lj e. (grind (arith, past i, past j, list_member one i, list_member two (j - m)));
   ends = λ j e. past j (omega arith) ∙ two.ends (j - m) (omega arith);
   some = omega arith;
 }
@@ -217,9 +208,7 @@ module _ (n : ℕ) (next after first last rank : ℕ → ℕ) (front many : ℕ)
       → (k : ℕ) → k < many → IsListed n next (first front) (last (walk after front k))
       (ring_sum after rank front (suc k)) (λ v. listed after front (suc k) (out v))
   row_joined seams zero l = (let one : rank front ≡ 0 + rank front = omega arith in
-      rw one at (list_renamed (λ v. false || eqb front (out v)) (each 0 l) (λ v lv. eqb_order (out v) front)))
-  row_joined seams (suc k) l = list_renamed (λ v. listed after front (suc k) (out v)
-      || eqb (walk after front (suc k)) (out v)) (list_joined (row_joined seams k (omega arith)) (each (suc k) l)
-      (seams k l) (λ v on too. (let w = listed_place after front (suc k) (out v) on in
-      distinct w.0 (suc k) w.1 l (w.2 ∙ eqb-true (out v) (walk after front (suc k)) too)))) (λ v lv.
-      ap (λ (s : Bool). listed after front (suc k) (out v) || s) (eqb_order (out v) _))
+      rw one at (list_renamed _ (each 0 l) (λ v lv. eqb_order _ _)))
+  row_joined seams (suc k) l = list_renamed _ (list_joined (row_joined seams k (omega arith)) (each (suc k) l)
+      (seams k l) (λ v on too. (let w = listed_place _ _ _ _ on in
+      distinct w.0 (suc k) w.1 l (w.2 ∙ eqb-true (out v) (walk after _ (suc k)) too)))) (search rules)

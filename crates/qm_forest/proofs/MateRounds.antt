@@ -1,8 +1,8 @@
 -- What an edge's kind says of its dart that begins in an outer blossom.
-use Rattle.std.proofs.Common.{rules, ◌≡◌, ◌≢◌, ℕ, ◌+◌, ◌*◌, ◌<◌, Bool, true, false, cond, eqb, length, ℤ, pos, ◌≤ℤ◌}
+use Rattle.std.proofs.Common.{rules, ◌≡◌, ◌≢◌, ℕ, ◌+◌, ◌*◌, ◌<◌, Bool, true, false, cond, eqb, length, pos}
 use Rattle.std.proofs.Common.{Option, is_some, ◌⊎◌, refl, sym, ◌∙◌, ap, subst, inl, inr, arith, suc, ◌-◌, ◌/◌, ◌%◌, ◌≤◌}
 use Rattle.std.proofs.Common.{List, get_or, Some, None}
-use Rattle.std.proofs.lemmas.Bool.{cases_Bool, cond-true, cond-false, eq-eqb, cases_eq, cases_lt, eqb-true, ne_eqb}
+use Rattle.std.proofs.lemmas.Bool.{cases_Bool, cond-true, cond-false, eq-eqb, cases_eq, cases_lt, ne_eqb}
 use Rattle.std.{proofs.lemmas.Int.ints, proofs.Math.ListN.set, proofs.lemmas.Option.none-some, specs.Prelude.int_lt}
 use Rattle.def_matching.specs.Matching.{IsSmallGraph, WeightedGraph, edge_at}
 use Rattle.def_forest.specs.Forests.{Forest, weight_between, IsTight, bool_number, splits}
@@ -19,9 +19,6 @@ use Rattle.qm_forest.specs.Rounds.{IsSoundFor, IsLaminar, IsPairing, IsRound, en
 use Rattle.qm_forest.specs.Rounds.{matches, near_at, waits_but, within}
 use Rattle.qm_forest.proofs.Withins.{rising, in_line, in_where, through, where_in}
 use Rattle.qm_forest.proofs.RingRounds.{paired_round}
-
-not_loose : (x : ℤ) → int_lt (pos 0) x ≡ false → x ≤ℤ pos 0
-not_loose x e = grind (arith, ints)
 
 module _ {g : WeightedGraph} (is : IsSmallGraph g) {f : Forest} (feasible : IsFeasible (darts_of g) f) (e : ℕ)
     (low : e < length g.edges) where
@@ -42,9 +39,8 @@ module _ {g : WeightedGraph} (is : IsSmallGraph g) {f : Forest} (feasible : IsFe
     | inr off ↦ (let load = feasible.darts (2 * e) (omega arith) in
         let same : weight_between f ((darts_of g).near (2 * e)) (far (darts_of g) (2 * e))
         ≡ weight_between f (edge_at g e).u (edge_at g e).v = cc (dart_near g e, dart_far g e) in
-        let slack = not_loose (slack_of g f e) off in
         let tight : IsTight (darts_of g) f (2 * e) =
-        record { low = omega arith; exact = omega (arith, ints, load, same, dart_cost g e, slack) } in
+        record { low = omega arith; exact = omega (arith, ints, load, same, dart_cost g e) } in
         (tight, sym (cond-false _ _ _ off) ∙ is_k))
   ]
 
@@ -95,11 +91,6 @@ module _ {g : WeightedGraph} (is : IsSmallGraph g) {f : Forest} (feasible : IsFe
 
 -- The outermost blossoms are matched as they are: each is met once.
 
--- What is one of two that differ is just one of them.
-one_side : (on : Bool) (b c : ℕ) {a : ℕ} → on ≡ true → b ≢ c → (a ≡ b) ⊎ (a ≡ c)
-    → cond on (bool_number (eqb a b) + bool_number (eqb a c)) 0 ≡ 1
-one_side on b c is ne side = grind arith
-
 module _ {t : ForestTables} (known : IsLaminar t) {g : WeightedGraph} (valid : IsSoundFor g t) where
   abbrev pub f : Forest
   f = forest_of t
@@ -143,17 +134,6 @@ module _ {t : ForestTables} (known : IsLaminar t) {g : WeightedGraph} (valid : I
         | inr m ↦ in_where (rising known) b 0 (top_rank u lu) (sym m.1 ∙ walk_fixed _ m.0 (top_stays u lu))
       ]
 
-  -- No blossom lies in two outermost ones.
-  not_both : (b u v : ℕ) → u < length t.hand → v < length t.hand → f.out u ≢ f.out v → within t b (f.out u) ≡ true
-      → within t b (f.out v) ≡ true → ⊥
-  not_both b u v lu lv ne on other =
-      let wu = where_in (rising known) b _ on in
-      let wv = where_in (rising known) b _ other in
-      elim (in_line (rising known) b wu.0 wv.0 wu.1 wv.1) [
-        | inl m ↦ ne (sym (walk_fixed _ m.0 (top_stays u lu)) ∙ m.1)
-        | inr m ↦ ne (sym m.1 ∙ walk_fixed _ m.0 (top_stays v lv))
-      ]
-
   -- Two outermost blossoms are a pair.
   tops_law : (u v b : ℕ) → u < length t.hand → v < length t.hand → f.out u ≢ f.out v
       → bool_number (splits (f.holds b) u v) + (waits_but t b (f.out u) u + waits_but t b (f.out v) v)
@@ -177,8 +157,7 @@ module _ {t : ForestTables} (known : IsLaminar t) {g : WeightedGraph} (valid : I
   vertex_low d l = rw (valid.vertices, valid.ends d l) (are.near_low d l)
 
   used_at : (u : ℕ) → u < length t.hand → length t.hand ≤ f.out u → get_or t.parts (f.out u) 0 ≢ 0
-  used_at u lu high none = true_false (own u lu)
-      (valid.valid.nested.empty _ u (rw valid.vertices at high) (low_in u lu) none)
+  used_at u lu high none = true_false (own u lu) (search rules)
 
   pub mate_edge : (e : ℕ) → f.mate (out (from e)) ≡ Some (2 * e) → IsMateEdge e
   mate_edge e mate = record {
@@ -257,22 +236,21 @@ module _ {t : ForestTables} (known : IsLaminar t) {g : WeightedGraph} (valid : I
       elim (cases_eq (d % 2) 0) [
         | inl z ↦ (let s : 2 * e ≡ d = omega (arith, z) in
             let here = ap (λ k. f.out (near_at t k)) s ∙ near_is in (
-              value e (dart_is (2 * e) (ap f.mate here ∙ (mate ∙ ap (λ (k : ℕ). Some k) (sym s)))) (inl (sym here)),
+              value e (dart_is _ (ap f.mate here ∙ (mate ∙ ap (λ (k : ℕ). Some k) (sym s)))) (inl (sym here)),
               omega (arith, m.tight.low),
             ))
         | inr nz ↦ (let s : 2 * e ≡ d - 1 = omega (arith, nz) in
             let up : 2 * e + 1 ≡ d = omega (arith, nz) in
             let twin = s ∙ sym (twin_odd d nz) in
             let far_is = ap (near_at t) twin ∙ valid.ends (other_dart d) (are.twin_low d m.tight.low) in (
-              value e (dart_is (2 * e) (ap (λ v. f.mate (f.out v)) far_is
-                  ∙ (m.back ∙ ap (λ (k : ℕ). Some k) (sym twin))))
+              value e (dart_is _ (ap (λ v. f.mate (f.out v)) far_is ∙ (m.back ∙ ap (λ (k : ℕ). Some k) (sym twin))))
                   (inr (sym (ap (λ k. f.out (near_at t k)) up ∙ near_is))),
               omega (arith, m.tight.low),
             ))
       ]
     where
       value : (e : ℕ) → matches t e ≡ true → (f.out w ≡ out (from e)) ⊎ (f.out w ≡ out (to e)) → term w e ≡ 1
-      value e on side = search (rules, matches_is, within_out, one_side)
+      value e on side = search (rules, matches_is, within_out)
 
   others_none : (w d : ℕ) → w < length t.hand → f.mate (f.out w) ≡ Some d → (k : ℕ) → k ≢ d / 2 → term w k ≡ 0
   others_none w d lw mate k ne = term_none w k lw (λ x e at. ne (at ∙ ap (λ z. z / 2) (some_is x d (sym e ∙ mate))))
@@ -286,8 +264,7 @@ module _ {t : ForestTables} (known : IsLaminar t) {g : WeightedGraph} (valid : I
     | inr s ↦ elim (cases_lt (s.0 / 2) edges) [
       | inl l ↦ (let one = count_below_one _ edges _ l (λ k lk. others_none w s.0 lw s.1 k) in
           omega (arith, (term_one w s.0 lw s.1).0))
-      | inr h ↦ (let none = count_below_none _ edges (λ k l. others_none w s.0 lw s.1 k (λ e. absurd (omega arith))) in
-          omega arith)
+      | inr h ↦ search (rules, count_below_none, others_none)
     ]
   ]
 
@@ -303,13 +280,8 @@ module _ {t : ForestTables} (known : IsLaminar t) {g : WeightedGraph} (valid : I
   pub due_same : (b w edges : ℕ) → w < length t.hand → within t w b ≡ true → matched_by t edges b ≡ matched_by t edges w
   due_same b w edges lw held =
       let same : (u : ℕ) → u < length t.hand → within t b (f.out u) ≡ within t w (f.out u) = λ u lu. same_test _ _
-      (λ on. through (rising known) w b (f.out u) (top_rank u lu) held on)
-      (λ on. (let here = eqb-true (f.out w) (f.out u) (sym (within_out w u lw lu) ∙ on) in
-      ap (within t b) (sym here) ∙ around_in b w lw held)) in
-      count_below_same _ _ edges (λ e l. elim (cases_Bool (matches t e)) [
-        | inr off ↦ cond-false _ _ _ off ∙ sym (cond-false _ _ _ off)
-        | inl on ↦ (let m = matches_is e on in rw (same (from e) m.near_low, same (to e) m.far_low))
-      ])
+      (λ on. through (rising known) w b (f.out u) (top_rank u lu) held on) (search (rules, around_in)) in
+      count_below_same _ _ edges (search (rules, matches_is))
 
   -- One edge more.
   pub edge_more : {marks : List Bool} {marks2 : List Bool} {left : List (Option ℕ)} {left2 : List (Option ℕ)} (e j : ℕ)
@@ -320,9 +292,8 @@ module _ {t : ForestTables} (known : IsLaminar t) {g : WeightedGraph} (valid : I
   edge_more {marks} {left} e j j_is size_marks size_left mate marks_is left_is round =
       let step : (b : ℕ) → matched_by t j b ≡ matched_by t e b + (bool_number (within t b (out (from e)))
       + bool_number (within t b (out (to e)))) = λ b. (let o : j ≡ suc e = omega arith in
-      grind (arith, o, dart_is (2 * e) mate)) in
-      rw (marks_is, left_is) (paired_round known valid marks left _ _ (2 * e) (λ b. 0)
-      _ size_marks size_left (record {
+      grind (arith, o, dart_is _ mate)) in
+      rw (marks_is, left_is) (paired_round known valid _ _ _ _ _ _ _ size_marks size_left (record {
         each = λ b l. omega (arith, round.each b l, step b);
         entry = round.entry;
         once = λ v l. due_low v j l;
@@ -332,8 +303,6 @@ module _ {t : ForestTables} (known : IsLaminar t) {g : WeightedGraph} (valid : I
   pub edge_same : {marks : List Bool} {left : List (Option ℕ)} (e j : ℕ) → j ≡ e + 1 → f.mate (out (from e))
       ≢ Some (2 * e) → IsRound t marks left (λ b. 0) (matched_by t e) → IsRound t marks left (λ b. 0) (matched_by t j)
   edge_same e j j_is off round =
-      let once = λ (v : ℕ) (l : v < length t.hand). due_low v j l in
-      let step : (b : ℕ) → matched_by t j b ≡ matched_by t e b = λ b.
-      (let o : j ≡ suc e = omega arith in
-      grind (arith, o, cases_Bool (matches t e), dart_true (f.mate (out (from e))) (2 * e))) in
-      grind (arith, round, step, once)
+      let step : (b : ℕ) → matched_by t j b ≡ matched_by t e b = λ b. (let o : j ≡ suc e = omega arith in
+      search (rules, dart_true)) in
+      grind (arith, round, step)

@@ -1,18 +1,17 @@
 -- Two climbers in a valid forest: each turn keeps what they know, and brings them nearer.
 use Rattle.std.proofs.Common.{rules, ◌≡◌, ◌≢◌, ℕ, suc, ◌+◌, ◌-◌, ◌<◌, ◌≤◌, ◌^◌, length, get_or, ℤ, pos, ◌+ℤ◌, ◌⊎◌, refl}
 use Rattle.std.proofs.Common.{sym, ◌∙◌, ap, inl, inr, arith, ◌≤ℤ◌, Some, None, subst}
-use Rattle.std.{proofs.lemmas.Int.ints, specs.Prelude.unsigned_abs, specs.Prelude.slice_index}
-use Rattle.def_matching.specs.Matching.{WeightedGraph, IsGraph}
 use Rattle.def_forest.specs.Tables.{up_at, ForestTables, forest_of, label_at, IsValidFor, out_of}
-use Rattle.def_forest.specs.{Forests.IsOutermost, Forests.weight_between, Forests.Forest, Forests.dual_sum_of}
-use Rattle.def_forest.specs.{Steps.weight_change, Steps.shifted, Steps.rooted, declared.kinds.Label.Label}
-use Rattle.def_forest.specs.{Darts.darts_of, Valid.IsFeasible, Valid.IsValid}
-use Rattle.forest_laws.proofs.{Grows.label_cases, Grows.potential_shifted, Grows.rooted_valid, Bounds.are_darts}
-use Rattle.forest_laws.proofs.{Shifts.sum_rises, Shifts.shift_valid}
+use Rattle.def_forest.specs.{declared.kinds.Label.Label, Darts.darts_of, Valid.IsFeasible, Valid.IsValid}
+use Rattle.def_forest.specs.Forests.{IsOutermost, weight_between, Forest, dual_sum_of}
+use Rattle.def_forest.specs.Steps.{weight_change, shifted, rooted}
+use Rattle.forest_laws.proofs.Grows.{label_cases, potential_shifted, rooted_valid}
+use Rattle.forest_laws.proofs.{Bounds.are_darts, Shifts.sum_rises, Shifts.shift_valid}
 use Rattle.qm_forest.specs.Ties.{IsClimb, IsWithin, IsMeeting, apart, fixed_of, AreTied, HiddenTables, potential, added}
-use Rattle.qm_forest.specs.Ties.{told}
 use Rattle.qm_forest.proofs.Fresh.{can_climb, rank_low, apart_step, apart_order, apart_met, apart_small}
-use Rattle.qm_forest.proofs.{TiedWrites.sizes_kept, OnWays.valid_as}
+use Rattle.{std.proofs.lemmas.Int.ints, std.specs.Prelude.unsigned_abs, std.specs.Prelude.slice_index}
+use Rattle.{def_matching.specs.Matching.WeightedGraph, def_matching.specs.Matching.IsGraph, qm_forest.specs.Ties.told}
+use Rattle.{qm_forest.proofs.TiedWrites.sizes_kept, qm_forest.proofs.OnWays.valid_as}
 
 module _ {g : WeightedGraph} {t : ForestTables} (valid : IsValidFor g t) (climb : IsClimb (length t.hand) (up_at t.up)
     (forest_of t).out) (few : length t.up ≤ 2 ^ 26) (small : (b : ℕ) → unsigned_abs ((forest_of t).weight b)
@@ -53,9 +52,6 @@ module _ {g : WeightedGraph} {t : ForestTables} (valid : IsValidFor g t) (climb 
   within_climbs b x y wx wy ne le = can_climb rank climb rises wx.0 wy.0 x y wx.1
       wy.1 (wx.2 ∙ sym wy.2) (wx.3, wx.4) (wy.3, wy.4) ne le
 
-  all_small : (x y : ℕ) → unsigned_abs (passing x y) ≤ 2 ^ 88
-  all_small x y = omega (arith, apart_small (length t.hand) up (forest_of t).weight (length t.up) x y small)
-
   module _ {u v x y : ℕ} {load : ℤ} (meet : IsMeeting t u v x y load) (ne : x ≢ y) where
     abbrev top : ℕ
     top = (forest_of t).out u
@@ -72,13 +68,19 @@ module _ {g : WeightedGraph} {t : ForestTables} (valid : IsValidFor g t) (climb 
         → load2 ≡ load +ℤ get_or t.base low (pos 0) → IsMeeting t u v x2 high load2
     turn_meets low high {x2} load2 either order x2_is x2_low load_is =
         let w = sides either in
-        let inner = within_climbs top low high w.0.first w.0.second w.1 order in
-        let step = apart_step rank climb rises (forest_of t).weight (length t.up) w.0.first.0 w.0.first.0 low high
+        let inner = within_climbs _ _ _ w.0.first w.0.second w.1 order in
+        let step = apart_step _ climb rises (forest_of t).weight _ _ w.0.first.0 _ _
         w.0.first.1 (w.0.first.3, w.0.first.4) w.1 order inner w.0.low_x in
         let sum : load2 +ℤ passing x2 high ≡ passing u v =
-        omega (arith, ints, ap (λ k. passing k high) x2_is, load_is, w.0.sum, base_is low inner) in
-        let first : IsWithin t top x2 = rw x2_is (within_up top low w.0.first) in
-        let small : unsigned_abs load2 ≤ 2 ^ 90 = omega (arith, ints, sum, all_small x2 high, all_small u v) in
+        omega (arith, ints, ap (λ k. passing k high) x2_is, load_is, w.0.sum, base_is _ inner) in
+        let first : IsWithin t top x2 = rw x2_is (within_up _ _ w.0.first) in
+        let small : unsigned_abs load2 ≤ 2 ^ 90 = omega (
+          arith,
+          ints,
+          sum,
+          apart_small (length t.hand) up (forest_of t).weight (length t.up) x2 high small,
+          apart_small (length t.hand) up (forest_of t).weight (length t.up) u v small,
+        ) in
         assumption (x2_low w.0.low_x)
 
     -- And they come nearer.
@@ -109,10 +111,9 @@ change_low l s h = grind (arith, ints)
 pub seen_shift : (t : ForestTables) (s : ℤ) {d : ℤ} → d ≡ t.delta +ℤ s → forest_of (record t { delta = d })
     ≡ shifted (forest_of t) s
 seen_shift t s {d} e i =
-    let weight : (b : ℕ) → (forest_of (record t { delta = d })).weight b
-    ≡ (forest_of t).weight b +ℤ weight_change (label_at t.label b) s = λ b. let h : weight_change (label_at t.label b) d
-    ≡ weight_change (label_at t.label b) t.delta +ℤ weight_change (label_at t.label b) s = ap
-    (weight_change (label_at t.label b)) e ∙ change_sum _ t.delta s in omega (arith, ints, h) in
+    let weight : (b : ℕ) → (forest_of (record t { delta = d })).weight b ≡ (forest_of t).weight b +ℤ weight_change
+    (label_at t.label b) s = λ b. let h : weight_change (label_at t.label b) d ≡ weight_change (label_at t.label b)
+    t.delta +ℤ weight_change (label_at t.label b) s = search (rules, change_sum) in omega (arith, ints, h) in
     record (forest_of t) { weight = λ b. weight b i }
 
 -- Where no tree stands a shift changes nothing.
@@ -136,8 +137,7 @@ module _ {t : ForestTables} {hid : HiddenTables} (tied : AreTied t hid) {g : Wei
       weight_change (label_at t.label (out_of t.hand t.top v)) s
   added_is v = let h : weight_change (label_at t.label (out_of t.hand t.top v)) d
       ≡ weight_change (label_at t.label (out_of t.hand t.top v)) t.delta +ℤ weight_change
-      (label_at t.label (out_of t.hand t.top v)) s = cc (change_sum (label_at t.label (out_of t.hand t.top v)) t.delta
-      s) in omega (arith, ints, h)
+      (label_at t.label (out_of t.hand t.top v)) s = search (rules, change_sum) in omega (arith, ints, h)
 
   -- The tie after a shift.
   pub tied_shift : AreTied (record t { delta = d }) hid
@@ -151,10 +151,7 @@ module _ {t : ForestTables} {hid : HiddenTables} (tied : AreTied t hid) {g : Wei
       small_start = tied.numbers.small_start;
       moved = λ v lv. (let low = change_low (label_at t.label (out_of t.hand t.top v)) s high in
           omega (arith, ints, sum_is, added_is v, tied.numbers.moved v lv));
-      risen = (
-        omega (arith, ints, d_is, tied.numbers.risen.0),
-        omega (arith, ints, d_is, sum_is, tied.numbers.risen.1),
-      );
+      risen = search (rules, sum_is);
       still = λ none. absurd (clash (sym root ∙ none));
     };
     trail = tied.trail;
@@ -185,5 +182,4 @@ pub valid_rooted : {t : ForestTables} (u : ForestTables) {g : WeightedGraph} →
     ≡ rooted (forest_of t) ((forest_of t).out v) → u.hand ≡ t.hand → u.root ≡ Some ((forest_of t).out v) → fixed_of u
     ≡ fixed_of t → IsValidFor g u
 valid_rooted {t} u is valid v low none free seen hand root fixed = valid_as u valid fixed (ap length hand)
-    (rw (seen, root) (rooted_valid (are_darts is) (rw none at valid.valid) ((forest_of t).out v)
-    (v, rw valid.vertices at low, refl) free))
+    (rw (seen, root) (rooted_valid (are_darts is) (rw none at valid.valid) _ (v, rw valid.vertices at low, refl) free))

@@ -4,12 +4,12 @@ use Rattle.std.proofs.Common.{is_some, sym, ◌∙◌, ap, arith}
 use Rattle.def_matching.specs.Matching.{IsSmallGraph, WeightedGraph}
 use Rattle.def_forest.specs.{Darts.Darts, Darts.AreDarts, Darts.darts_of, Darts.far, Forests.Forest, Forests.set_at}
 use Rattle.def_forest.specs.{Steps.grown, Steps.with_mates, Steps.IsAugmented, Tables.ForestTables, Tables.forest_of}
-use Rattle.def_forest.specs.{Tables.IsValidFor, Valid.IsValid, declared.kinds.Label.Label}
+use Rattle.def_forest.specs.{Tables.IsValidFor, Valid.IsValid}
 use Rattle.def_forest.specs.{declared.kinds.Label.TheVariants.Outside, Ways.Reaches, Ways.steps, Ways.parent_of}
 use Rattle.forest_laws.proofs.{Grows.tree_of, Grows.outer_mate, Grows.grown_valid, Grows.outer_named, Grows.some_is}
-use Rattle.forest_laws.proofs.{Bounds.are_darts, Levels.fewer_steps, Levels.inner_is, WayLaws.begin, WayLaws.turn}
+use Rattle.forest_laws.proofs.{Bounds.are_darts, Levels.fewer_steps, WayLaws.begin, WayLaws.turn}
 use Rattle.forest_laws.proofs.{WayLaws.end_valid, WayLaws.end_augmented}
-use Rattle.qm_forest.specs.Ties.{fixed_of, IsOnWay, HasSameNest, mated, remated, labelled, relabelled}
+use Rattle.qm_forest.specs.Ties.{fixed_of, IsOnWay, HasSameNest, mated, remated, labelled}
 
 -- A mate is a dart of the graph.
 pub mate_low : {g : WeightedGraph} {t : ForestTables} → IsSmallGraph g → IsValidFor g t → (b m : ℕ)
@@ -104,12 +104,7 @@ module _ {g : WeightedGraph} {t : ForestTables} {start : ℕ} {mate : ℕ → Op
       → up ≡ f.link inner → a2 ≡ f.out (far d up) → far_up a2 < far_up a
   way_shorter old {a2} was inner_is' up_is a_is =
       let own : f.mate a ≡ Some old = sym own_mate ∙ was in
-      let parent : a2 ≡ parent_of d f a = rw (
-        a_is,
-        up_is,
-        inner_is',
-        inner_is are valid_top way.tree a old way.almost.outer own,
-      ) in
+      let parent : a2 ≡ parent_of d f a = search rules in
       omega (arith, fewer_steps are valid_top way.tree a old way.almost.outer own, ap far_up parent)
 
   -- The blossom at hand is outermost, and its number low.
@@ -155,10 +150,6 @@ pub seen_own : (t0 t1 : ForestTables) (mate : ℕ → Option ℕ) → forest_of 
     → forest_of t1 ≡ remated (forest_of t0) (forest_of t1).mate
 seen_own t0 t1 mate e = e ∙ ap (remated (forest_of t0)) (sym (ap (λ (f : Forest). f.mate) e))
 
-pub labels_own : (t0 t1 : ForestTables) (label : ℕ → Label) → forest_of t1 ≡ relabelled (forest_of t0) label
-    → forest_of t1 ≡ relabelled (forest_of t0) (forest_of t1).label
-labels_own t0 t1 label e = e ∙ ap (relabelled (forest_of t0)) (sym (ap (λ (f : Forest). f.label) e))
-
 -- The outermost blossom of one more vertex of a list is put outside.
 pub one_more_outside : (f1 : Forest) {f2 : Forest} (trail : List ℕ) (k : ℕ) {v : ℕ} → v ≡ get_or trail k 0
     → f2 ≡ labelled f1 (f1.out v) Outside → ((i : ℕ) → i < k → f1.label (f1.out (get_or trail i 0)) ≡ Outside)
@@ -175,7 +166,6 @@ pub augmented : {t : ForestTables} (s u : ForestTables) {g : WeightedGraph} → 
     × IsAugmented (darts_of g) (forest_of t) (forest_of u) r start) × IsValidFor g u
 augmented {t} s u {g} is valid {start} reach done seen ended hand root fixed =
     let at = tree_of (are_darts is.lawful) valid.valid _ (outer_named reach.outer) in
-    let whole : forest_of u ≡ with_mates (forest_of t) (forest_of s).mate =
-    ended ∙ ap (λ (f : Forest). with_mates f (forest_of s).mate) seen in
+    let whole : forest_of u ≡ with_mates (forest_of t) (forest_of s).mate = search rules in
     let made = done at.0 at.1 in
     ((at.0, at.1, rw whole made.1), valid_as u valid fixed (ap length hand) (rw (whole, root) made.0))

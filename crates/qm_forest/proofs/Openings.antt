@@ -184,8 +184,7 @@ module _ {g : WeightedGraph} {t0 : ForestTables} {b : ℕ} (ready : CanOpen g t0
 
     -- The vertices of the set are those of its parts.
     pub in_part : (v : ℕ) → v < g.n → f0.out v ≡ b → inside (part v) ≡ true
-    in_part v l e = true_from_ne_false (inside (part v))
-        (λ off. parted.ended v l (sym (parted.out v l ∙ cond-false _ _ _ off) ∙ e))
+    in_part v l e = true_from_ne_false _ (λ off. parted.ended v l (sym (parted.out v l ∙ cond-false _ _ _ off) ∙ e))
 
     pub out_is : (v : ℕ) → v < g.n → f2.out v ≡ cond (eqb (f0.out v) b) (part v) (f0.out v)
     out_is v l = out_told (f0.out v) (part v) b (inside (part v)) (parted.out v l) (parted.ended v l)
@@ -236,19 +235,17 @@ module _ {g : WeightedGraph} {t0 : ForestTables} {b : ℕ} (ready : CanOpen g t0
         → IsOpening d f0 (opening_at q e turns)
     opening_is {q} turns route short ends =
         let parts : (j : ℕ) → j ≤ 2 * ring_is.half → (f0.nest.up (q j) ≡ b) × (q j ≢ b) × (q j < f0.size) = λ j l. (
-          part_around (q j) (route.marked j),
-          part_other (q j) (route.marked j),
-          part_low (q j) (route.marked j),
+          part_around _ (route.marked j),
+          part_other _ (route.marked j),
+          part_low _ (route.marked j),
         )
         in
         assumption (
           (λ (p : ℕ) (up : f0.nest.up p ≡ b) (ne : p ≢ b). route.all p (around_part p up ne)),
           (λ (v : ℕ) (l : v < g.n) (e : f0.out v ≡ b). route.all (part v) (in_part v l e)),
-          (λ (v j : ℕ) (l : v < g.n) (e : f0.out v ≡ b) (lj : j ≤ 2 * ring_is.half).
-              held_part (q j) v (route.marked j) l),
+          (λ (v j : ℕ) (l : v < g.n) (e : f0.out v ≡ b) (lj : j ≤ 2 * ring_is.half). held_part _ v (route.marked j) l),
           (λ (x u v : ℕ) (lu : u < g.n) (lv : v < g.n) (ne : x ≢ b) (hu : f0.holds x u ≡ true)
-              (hv : f0.holds x v ≡ true) (eu : f0.out u ≡ b) (ev : f0.out v ≡ b).
-              parted.together x u v lu lv ne hu hv),
+              (hv : f0.holds x v ≡ true) (eu : f0.out u ≡ b) (ev : f0.out v ≡ b). parted.together x u v lu lv ne hu hv),
           sym route.begins,
           sym ends,
           in_tree.mate,

@@ -1,26 +1,24 @@
 -- A forest that is written down as a dual: the sets hold what they held, and the dual says yes.
 use Rattle.std.proofs.Common.{rules, ◌≡◌, ◌≢◌, ℕ, zero, suc, ◌+◌, ◌-◌, ◌*◌, ◌<◌, ◌≤◌, Bool, true, false, cond, eqb}
 use Rattle.std.proofs.Common.{subst, inl, inr, arith, ◌||◌, List, length, get_or, pos, ◌+ℤ◌, ◌*ℤ◌, ◌≤ℤ◌, ◌⊎◌, refl, sym}
-use Rattle.std.proofs.Common.{◌∙◌, ap}
+use Rattle.std.proofs.{Common.◌∙◌, Common.ap, lemmas.Bool.and_from, lemmas.Bool.ne_eqb, Math.Bool.or-false}
 use Rattle.std.proofs.lemmas.Bool.{cases_eq, cases_lt, cond-false, cond-true, eq-eqb, eqb-true, le-leb, le-ltb, lt-ltb}
-use Rattle.std.proofs.lemmas.Bool.{and_from, ne_eqb}
-use Rattle.std.proofs.{Math.Bool.or-false, lemmas.Int.ints}
-use Rattle.def_math.specs.Sums.{total, total_below}
-use Rattle.sum_laws.proofs.{Sums.count_below_same, Sums.total_below_one, Sums.total_below_same, Sums.total_below_sum}
-use Rattle.sum_laws.proofs.{Tests.same_test}
+use Rattle.sum_laws.proofs.Sums.{count_below_same, total_below_one, total_below_same, total_below_sum}
 use Rattle.def_matching.specs.Dual.{DualLists, SaysYes, AreNestedSets, crosses, dual_sum, holds, is_odd_size, is_up}
-use Rattle.def_matching.specs.Dual.{load as dual_load, set_size, sets_from, y_at, z_at}
-use Rattle.def_matching.specs.Matching.{WeightedGraph, edge_at}
 use Rattle.def_forest.specs.Forests.{Forest, dual_sum_of, weight_between, splits, blossom_size}
-use Rattle.def_forest.specs.{Darts.AreDarts, Darts.darts_of, Tables.ForestTables, Tables.forest_of, Tables.climbs}
-use Rattle.def_forest.specs.{Tables.up_at, Written.IsDualOf}
-use Rattle.forest_laws.proofs.{Bounds.are_darts, Bounds.dart_cost, Bounds.dart_far, Bounds.dart_near, Odds.large_set}
-use Rattle.forest_laws.proofs.{Odds.odd_blossom, Grows.by_none, Grows.by_two}
-use Rattle.qm_forest.specs.{Outlines.IsOutline, Outlines.entry_of, Outlines.set_in, Rounds.IsLaminar, Rounds.IsSoundFor}
-use Rattle.qm_forest.proofs.{Fresh.climbs_self, Withins.alone, Withins.rising, Withins.IsRising, Withins.in_where}
-use Rattle.qm_forest.proofs.{Enclosed.climbs_place, Waitings.place_of, Waitings.set_low, Waitings.sized}
-use Rattle.qm_forest.proofs.{Waitings.sum_parts}
-use Rattle.{std.specs.Prelude.nat_lt, std.specs.List.list_any, qm_dual.proofs.Tallies.total_entries}
+use Rattle.def_forest.specs.Tables.{ForestTables, forest_of, climbs, up_at}
+use Rattle.forest_laws.proofs.Bounds.{are_darts, dart_cost, dart_far, dart_near}
+use Rattle.forest_laws.proofs.{Odds.large_set, Odds.odd_blossom, Grows.by_none, Grows.by_two}
+use Rattle.qm_forest.specs.Outlines.{IsOutline, entry_of, set_in}
+use Rattle.qm_forest.proofs.Withins.{alone, rising, IsRising, in_where}
+use Rattle.qm_forest.proofs.Waitings.{place_of, set_low, sized, sum_parts}
+use Rattle.{std.proofs.lemmas.Int.ints, def_math.specs.Sums.total, def_math.specs.Sums.total_below}
+use Rattle.{sum_laws.proofs.Tests.same_test, def_matching.specs.Matching.WeightedGraph}
+use Rattle.{def_matching.specs.Matching.edge_at, def_forest.specs.Darts.AreDarts, def_forest.specs.Darts.darts_of}
+use Rattle.{def_forest.specs.Written.IsDualOf, qm_forest.specs.Rounds.IsLaminar, qm_forest.specs.Rounds.IsSoundFor}
+use Rattle.{qm_forest.proofs.Fresh.climbs_self, qm_forest.proofs.Enclosed.climbs_place, std.specs.Prelude.nat_lt}
+use Rattle.{std.specs.List.list_any, qm_dual.proofs.Tallies.total_entries}
+use Rattle.def_matching.specs.Dual.{load as dual_load, set_size, sets_from, y_at, z_at}
 
 -- A lawful entry.
 entry_lawful : (n m i entry : ℕ) → (entry ≡ 0) ⊎ ((i + 1 < n + entry) × (entry ≤ m)) → is_up n m i entry ≡ true
@@ -106,8 +104,7 @@ module _ (t : ForestTables) (known : IsLaminar t) (sets : List (ℕ × ℕ)) (d 
     any_is : (most x : ℕ) → up x ≢ x → list_any here (sets_from n d.up (suc most) (entry x)) ≡ climbs up most b (up x)
     any_is zero x ne = any_step zero x ne ∙ or-false (eqb (up x) b)
     any_is (suc more) x ne = any_step (suc more) x ne ∙ elim (cases_eq (up (up x)) (up x)) [
-      | inl e ↦ ap (λ s. eqb (up x) b || s) (any_none more e)
-          ∙ (or-false (eqb (up x) b) ∙ sym (climbs_self up (suc more) b e))
+      | inl e ↦ ap (λ s. eqb (up x) b || s) (any_none _ e) ∙ (or-false _ ∙ sym (climbs_self up (suc more) b e))
       | inr inner ↦ ap (λ s. eqb (up x) b || s) (any_is more (up x) inner)
     ]
 
@@ -156,14 +153,13 @@ module _ (t : ForestTables) (known : IsLaminar t) (sets : List (ℕ × ℕ)) (d 
     sum_is : dual_sum d ≡ dual_sum_of f
     sum_is =
         let ys : total (λ y. y) d.y ≡ total_below f.weight n = cc (
-          total_entries (λ y. y) (pos 0) d.y,
+          total_entries _ (pos 0) _,
           is.y.size,
-          total_below_same (λ k. get_or d.y k (pos 0)) f.weight n (λ v l. is.y.each v l),
+          total_below_same _ _ n (λ v l. is.y.each v l),
         ) in
-        let zs : total (λ z. z) d.z ≡ total_below (λ k. f.weight (set_in sets k)) m = total_entries (λ z. z) (pos 0) d.z
-        ∙ (ap (total_below (λ k. get_or d.z k (pos 0))) sets_many ∙ total_below_same (λ k. get_or d.z k (pos 0))
-        (λ k. f.weight (set_in sets k)) m (λ k l. is.z.each k l)) in
-        omega (arith, ints, ys, zs, sum_parts is.order f.weight known.vertices weights_high weights_none)
+        let zs : total (λ z. z) d.z ≡ total_below (λ k. f.weight (set_in sets k)) m = total_entries _ _ d.z
+        ∙ (ap (total_below (λ k. get_or d.z k (pos 0))) sets_many ∙ total_below_same _ _ m (λ k l. is.z.each k l)) in
+        omega (arith, ints, ys, zs, sum_parts is.order _ known.vertices weights_high weights_none)
 
     pub dual_is : IsDualOf n f d
     dual_is = record {
@@ -211,9 +207,8 @@ module _ (t : ForestTables) (known : IsLaminar t) (sets : List (ℕ × ℕ)) (d 
     size_odd k l =
         let high = high_in (set_in sets k) (sized is.order k l).high in
         let live = (sized is.order k l).live in
-        ap is_odd_size (size_is k l) ∙ and_from _ _
-        (eq-eqb _ _ (odd_blossom are valid.valid.nested (set_in sets k) (inr (high, live))))
-        (le-leb 3 _ (large_set are valid.valid.nested (set_in sets k) high live))
+        ap is_odd_size (size_is k l) ∙ and_from _ _ (eq-eqb _ _ (odd_blossom are valid.valid.nested (set_in sets k)
+        (inr (high, live)))) (le-leb 3 _ (large_set are valid.valid.nested (set_in sets k) high live))
 
     -- What the vertices add to a load.
     ends_load : (u v : ℕ) → u < n → v < n → u ≢ v

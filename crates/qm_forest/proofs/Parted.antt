@@ -2,24 +2,23 @@
 -- forest after all of them.
 use Rattle.std.proofs.Common.{rules, ◌≡◌, ◌≢◌, ℕ, zero, suc, ◌+◌, ◌-◌, ◌<◌, ◌≤◌, Bool, true, false, cond, List, length}
 use Rattle.std.proofs.Common.{get_or, ℤ, pos, Option, Some, None, ◌⊎◌, refl, sym, ◌∙◌, ap, inl, inr, arith, length-set}
-use Rattle.std.proofs.Common.{get_or-set_same, get_or-set_other}
-use Rattle.std.proofs.{Math.ListN.set, lemmas.Bool.cases_eq, lemmas.Bool.cases_Bool, lemmas.Bool.false_from_ne_true}
+use Rattle.std.proofs.{Common.get_or-set_same, Common.get_or-set_other, Math.ListN.set}
+use Rattle.std.proofs.lemmas.Bool.{cases_eq, cases_Bool, false_from_ne_true}
 use Rattle.def_forest.specs.Tables.{ForestTables, forest_of, climbs, label_at, out_of, up_at}
 use Rattle.def_forest.specs.{Forests.Forest, Forests.walk, declared.kinds.Label.TheVariants.Outside}
-use Rattle.{forest_laws.specs.Walks.listed, std.specs.Prelude.slice_get, qm_pool.specs.declared.pool.Node.Node}
-use Rattle.forest_laws.proofs.{Walks.listed_at, Walks.listed_off, Walks.listed_place, Walks.writes_at, Walks.writes_off}
-use Rattle.forest_laws.proofs.{Grows.label_cases, Grows.true_false}
+use Rattle.forest_laws.proofs.Walks.{listed_at, listed_off, listed_place, writes_at, writes_off}
 use Rattle.qm_forest.specs.Parts.{AreOpened, HasHandedRow, HasPartLists, IsPartable, IsParted}
+use Rattle.qm_forest.specs.{Ties.IsPooled, Ties.IsTrailed, Gathers.lists_at, declared.tables.Handles.Handles}
+use Rattle.qm_forest.specs.{declared.tables.Rings.Rings, declared.forest.Forest.TheInside.Inside}
 use Rattle.qm_forest.specs.Ties.{AreTied, HiddenTables, HasSizes, HasNumbers, IsClimb, IsInUse, IsLaidOut, IsListed}
-use Rattle.qm_forest.specs.Ties.{IsPooled, IsTrailed}
-use Rattle.qm_forest.specs.{Gathers.lists_at, declared.tables.Handles.Handles, declared.tables.Rings.Rings}
-use Rattle.qm_forest.specs.{declared.forest.Forest.TheInside.Inside}
 use Rattle.qm_forest.proofs.Enclosed.{Enclosing, climb_enclosed, holds_same, not_new, came_past, climbs_place}
 use Rattle.qm_forest.proofs.Enclosed.{leader_out, rank_few, rank_some}
+use Rattle.qm_forest.proofs.{Gatherings.list_read, Shrinkings.seen_in, Shrinkings.hidden_in, Waitings.pool_changed}
 use Rattle.qm_forest.proofs.TiedWrites.{numbers_kept, tied_as, trail_kept, read_nat, entry_set}
-use Rattle.qm_forest.proofs.JoinedLists.{writes_has, writes_self}
-use Rattle.qm_forest.proofs.{Fresh.comes_out, Fresh.fixed_top, Fresh.rank_low, Gatherings.list_read, Shrinkings.seen_in}
-use Rattle.qm_forest.proofs.{Shrinkings.hidden_in, JoinedLists.list_renamed, Waitings.pool_changed}
+use Rattle.qm_forest.proofs.JoinedLists.{writes_has, writes_self, list_renamed}
+use Rattle.qm_forest.proofs.Fresh.{comes_out, fixed_top, rank_low}
+use Rattle.{forest_laws.specs.Walks.listed, std.specs.Prelude.slice_get, qm_pool.specs.declared.pool.Node.Node}
+use Rattle.{forest_laws.proofs.Grows.label_cases, forest_laws.proofs.Grows.true_false}
 
 -- A set of weight 0 outside the tree whose ring has been opened.
 pub record Opened (s : Inside) (r2 : Rings) (b : ℕ) : Type 0 where
@@ -121,8 +120,7 @@ module _ {s : Inside} {r2 : Rings} {b : ℕ} (it : Opened s r2 b) where
 
   -- The set was around its parts.
   enclosing : Enclosing n up2 (λ v. walk up2 v n) rank (up_at t.up) inside b
-  enclosing =
-      grind (arith, climb_parted, rises, rank_some tied.nest, few, up_in, b_off, alone, unused, ups, in_around)
+  enclosing = grind (arith, climb_parted, rises, rank_some tied.nest, few, up_in, b_off, alone, unused, ups, in_around)
 
   holds_old : (x v : ℕ) → x ≢ b → v < n → climbs up2 n x v ≡ climbs (up_at t.up) n x v
   holds_old x v ne l = sym (holds_same enclosing x v ne l)
@@ -156,23 +154,14 @@ module _ {s : Inside} {r2 : Rings} {b : ℕ} (it : Opened s r2 b) where
   out_off : (v : ℕ) → v < n → inside (fresh v) ≡ false → out v ≡ fresh v
   out_off v l off = rw (out_is v l, off)
 
-  -- The parts are in use, and outside the tree.
-  part_used : (k : ℕ) → k < many → IsInUse n t.parts (at k)
-  part_used k l = grind (arith, tied.nest.idle (at k), ready.other k l, ready.around k l)
-
   part_outside : (x : ℕ) → inside x ≡ true → label_at t.label x ≡ Outside
-  part_outside x on = elim (label_cases _) [
-    | inl e ↦ e
-    | inr named ↦ (let w = tied.trail.named x named in
-        let top : up_at t.up x ≡ x = (rw w.2 at (tied.nest.climb.tops _ (tied.trail.low w.0 w.1))) in
-        let set : x ≡ b = sym top ∙ in_around x on in
-        absurd (true_false (ap inside (sym set) ∙ on) b_off))
-  ]
+  part_outside x on = elim (label_cases _) [ inl e ↦ e | inr named ↦ (search (rules, in_around)) ]
 
   -- The leaders of the parts are different vertices of them.
   leader_in : (k : ℕ) → k < many → (get_or hid.leader (at k) 0 < n)
       × (climbs (up_at t.up) n (at k) (get_or hid.leader (at k) 0) ≡ true)
-  leader_in k l = tied.nest.leaders (at k) (ready.row.low k l) (part_used k l)
+  leader_in k l = tied.nest.leaders (at k) (ready.row.low k l)
+      (grind (arith, tied.nest.idle (at k), ready.other k l, ready.around k l))
 
   leader_fresh : (k : ℕ) → k < many → fresh (get_or hid.leader (at k) 0) ≡ at k
   leader_fresh k l = part_fresh k _ l (leader_in k l).0 (leader_in k l).1
@@ -182,16 +171,13 @@ module _ {s : Inside} {r2 : Rings} {b : ℕ} (it : Opened s r2 b) where
       (sym (leader_fresh i (omega arith)) ∙ (ap fresh e ∙ leader_fresh j lj))
 
   pub set_live : (id : ℕ) × (b ≡ n + id) × (node : Node) × (slice_get s.pool id ≡ Some (Some node))
-  set_live =
-      let is : b ≡ n + (b - n) = omega arith in
-      let live : (node : Node) × (slice_get s.pool (b - n) ≡ Some (Some node)) =
-      tied.pool.live (b - n) (λ none. ready.live (ap (λ x. get_or s.rings.parts.items x 0) is ∙ none)) in
-      (b - n, is, live.0, live.1)
+  set_live = let is : b ≡ n + (b - n) = omega arith in search rules
 
   list_at : (k : ℕ) → k < many → IsListed n (λ i. get_or s.lists.following.items i 0)
       (get_or s.lists.first.items (at k) 0) (get_or s.lists.last.items (at k) 0) (get_or s.lists.rank.items (at k) 0)
       (climbs (up_at s.rings.up.items) n (at k))
-  list_at k lk = tied.nest.members (at k) (ready.row.low k lk) (part_used k lk)
+  list_at k lk = tied.nest.members (at k) (ready.row.low k lk)
+      (grind (arith, tied.nest.idle (at k), ready.other k lk, ready.around k lk))
 
   on_list : (k v : ℕ) → k < many → lists_at s.lists (at k) v ≡ true
       → (v < n) × (climbs (up_at s.rings.up.items) n (at k) v ≡ true)
@@ -277,24 +263,21 @@ module _ {s : Inside} {r2 : Rings} {b : ℕ} (it : Opened s r2 b) where
         ≡ get_or hid.off (get_or t.hand v 0) (pos 0)
     off_new v lv = elim (spot v lv) [
       | in_part k lk at_k in_b hand ↦ rw (hand, ap (λ (f : ℕ → ℤ). f (leader k)) handed.off)
-          (writes_at _ leader _ many k lk leaders_differ ∙ ap (λ i. get_or hid.off i (pos 0))
-          (sym (tied.nest.led v lv ∙ ap (λ x. get_or hid.leader x 0) in_b)))
+          (writes_at _ leader _ many k lk leaders_differ ∙ ap (λ i. get_or hid.off i (pos 0)) (search rules))
       | beside top hand ↦ rw (hand, ap (λ (f : ℕ → ℤ). f (get_or t.hand v 0)) handed.off)
           (writes_off _ leader _ many _ (λ k lk. hand_apart v k lv top lk))
     ]
 
     label_new : (v : ℕ) → v < n → label_at t.label (out2 v) ≡ label_at t.label (out v)
     label_new v lv = ap (label_at t.label) (out_new v lv) ∙ elim (spot v lv) [
-      | in_part k lk at_k in_b hand ↦ part_outside (fresh v) (ap inside (sym at_k) ∙ at_in k lk)
-          ∙ sym (ap (label_at t.label) in_b ∙ ready.outside)
+      | in_part k lk at_k in_b hand ↦ search (rules, part_outside, at_in)
       | beside top hand ↦ ap (label_at t.label) (sym top)
     ]
 
     numbers_new : HasNumbers h2.hand.items h2.top.items r2.up.items t.base t.label t.delta t.root h2.q.items
         h2.off.items
     numbers_new = numbers_kept tied ready.weightless handed.hands opened.size holds_old (λ none. none)
-        (λ v lv. rw (handed.q v, off_new v lv, label_new v lv))
-        (λ v lv. (v, lv, rw (off_new v lv, label_new v lv)))
+        (λ v lv. rw (handed.q v, off_new v lv, label_new v lv)) (λ v lv. (v, lv, rw (off_new v lv, label_new v lv)))
 
     set_low : b < length t.parts
     set_low = rw tied.sizes.parts ready.low
@@ -316,14 +299,13 @@ module _ {s : Inside} {r2 : Rings} {b : ℕ} (it : Opened s r2 b) where
         | in_part k lk at_k in_b hand ↦ rw (hand, tied.sizes.top) (leader_in k lk).0
         | beside top hand ↦ rw hand (tied.nest.hands v lv)
       ]);
-      outs = λ k lk. rw (ap (λ (f : ℕ → ℕ). f k) handed.top)
-          (writes_has (λ x. x < length t.up) _ leader at many k ready.row.low
-          (tied.nest.outs k (rw handed.tops at lk)));
+      outs = λ k lk. rw (ap (λ (f : ℕ → ℕ). f k) handed.top) (writes_has (λ x. x < length t.up) _ leader at many k
+          ready.row.low (tied.nest.outs k (rw handed.tops at lk)));
       ups = λ x lx. rw (read_nat r2.up.items x 0 x (rw opened.size lx))
           (grind (arith, ups x, read_nat t.up x x 0 lx, tied.nest.ups x lx));
       climb = record { ends = λ v lv. sym (out_new v lv); tops = λ v lv. rw (out_new v lv) (climb_parted.tops v lv) };
       led = λ v lv. elim (spot v lv) [
-        | in_part k lk at_k in_b hand ↦ hand ∙ ap (λ x. get_or hid.leader x 0) (at_k ∙ sym (out_new v lv))
+        | in_part k lk at_k in_b hand ↦ search (rules, out_new)
         | beside top hand ↦ hand ∙ (tied.nest.led v lv ∙ ap (λ x. get_or hid.leader x 0) (top ∙ sym (out_new v lv)))
       ];
       leaders = λ x lx used. (let was = tied.nest.leaders x lx (used_old x used).0 in
@@ -373,10 +355,8 @@ module _ {s : Inside} {r2 : Rings} {b : ℕ} (it : Opened s r2 b) where
       holds = λ x v ne lv. ap (λ m. climbs up2 m x v) handed.hands ∙ holds_old x v ne lv;
       holds_none = λ v lv. ap (λ m. climbs up2 m b v) handed.hands ∙ holds_none v lv;
       out = λ v lv. rw (out_new v lv) (out_is v lv);
-      holds_out = λ v lv. rw (out_new v lv) (sym (holds_old (fresh v) v (never v n lv) lv)
-          ∙ came_past up2 n v (fresh v) refl);
-      own = λ x v on lv held. (let p : (k : ℕ) × (k < many) × (at k ≡ x) = listed_place _ _ many x on in
-          out_new v lv ∙ (part_fresh p.0 v p.1 lv (rw p.2 held) ∙ p.2));
+      holds_out = λ v lv. rw (out_new v lv) (sym (holds_old _ v (never v n lv) lv) ∙ came_past _ n v _ refl);
+      own = search (rules, listed_place, out_new, part_fresh);
       ended = λ v lv at_b. never v n lv (sym (out_new v lv) ∙ at_b);
       together = λ x u v lu lv ne hu hv. out_new u lu ∙ (fresh_together x u v lu lv ne hu hv ∙ sym (out_new v lv));
       weight = refl;
@@ -387,13 +367,12 @@ module _ {s : Inside} {r2 : Rings} {b : ℕ} (it : Opened s r2 b) where
       after = refl;
       joint = refl;
       head = refl;
-      parts = λ x. ap (λ (f : ℕ → ℕ). f x) (ap (λ xs y. get_or xs y 0) opened.parts ∙ entry_set t.parts b 0 0 set_low);
+      parts = λ x. ap (λ (f : ℕ → ℕ). f x) (ap (λ xs y. get_or xs y 0) opened.parts ∙ entry_set _ b 0 0 set_low);
       rank = refl;
     })
 
 -- What the forest sees, said of the tables as contracts see them.
-pub parted_as : {t u : ForestTables} {new : Forest} {b : ℕ} → t ≡ u
-    → IsParted (length t.hand) (forest_of t) new (listed (λ i. get_or t.after i 0) (get_or t.head b 0)
-    (get_or t.parts b 0)) b → IsParted (length u.hand) (forest_of u) new
-    (listed (λ i. get_or u.after i 0) (get_or u.head b 0) (get_or u.parts b 0)) b
+pub parted_as : {t u : ForestTables} {new : Forest} {b : ℕ} → t ≡ u → IsParted (length t.hand) (forest_of t) new
+    (listed (λ i. get_or t.after i 0) (get_or t.head b 0) (get_or t.parts b 0)) b → IsParted (length u.hand)
+    (forest_of u) new (listed (λ i. get_or u.after i 0) (get_or u.head b 0) (get_or u.parts b 0)) b
 parted_as e is = rw e at is

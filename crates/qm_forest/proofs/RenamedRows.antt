@@ -1,23 +1,13 @@
 -- One vertex of a list, or one blossom of a row, more.
 use Rattle.std.proofs.Common.{rules, ◌≡◌, ◌≢◌, ℕ, suc, ◌+◌, ◌<◌, ◌≤◌, ◌^◌, Bool, true, false, cond, eqb, List, length}
-use Rattle.std.proofs.Common.{get_or, ℤ, pos, ◌+ℤ◌, ◌-ℤ◌, sym, ◌∙◌, ap, inl, inr, arith, get_or-set_same}
-use Rattle.std.proofs.Common.{get_or-set_other}
-use Rattle.std.proofs.lemmas.Bool.{cases_eq, cases_lt, cond-false, eq-eqb, ne_eqb}
+use Rattle.std.proofs.Common.{get_or, ℤ, pos, ◌+ℤ◌, ◌-ℤ◌, sym, ◌∙◌, ap, inl, inr, arith}
 use Rattle.std.proofs.{Math.ListN.set, lemmas.Int.ints, Math.Bool.or-false, Math.Bool.or-true, lemmas.List.get_or_past}
-use Rattle.{def_forest.specs.Forests.walk, def_forest.specs.Tables.out_of, std.specs.Prelude.unsigned_abs}
-use Rattle.{forest_laws.specs.Walks.listed, std.proofs.lemmas.List.get_or_read, forest_laws.specs.Walks.writes}
+use Rattle.std.proofs.lemmas.Bool.{cases_eq, cond-false, eq-eqb, ne_eqb}
 use Rattle.forest_laws.proofs.{Bounds.eqb_order, Walks.listed_off, Walks.listed_place}
 use Rattle.qm_forest.specs.Gathers.{lists_at, differ_by, in_row, HasListAt, HasListsOf, HasLeaders, HasRenamed, IsRow}
-use Rattle.qm_forest.specs.Gathers.{HasRenamedRow}
-use Rattle.qm_forest.specs.{declared.tables.Handles.Handles, declared.tables.Lists.Lists}
-
--- A table that is written at one more place of a walk, each place with its value: what is listed has it.
-one_more : {X : Type 0} (xs : List X) (d : X) (next : ℕ → ℕ) (from k : ℕ) (new old : ℕ → X)
-    → walk next from k < length xs → ((v : ℕ) → get_or xs v d ≡ cond (listed next from k v) (new v) (old v))
-    → {x : X} → x ≡ new (walk next from k) → (v : ℕ)
-    → get_or (set xs (walk next from k) x) v d ≡ cond (listed next from (suc k) v) (new v) (old v)
-one_more xs d next from k new old low was {x} x_is v =
-    grind (arith, was v, get_or-set_same xs (walk next from k) x d low, get_or-set_other xs (walk next from k) v x d)
+use Rattle.qm_forest.specs.{Gathers.HasRenamedRow, declared.tables.Handles.Handles, declared.tables.Lists.Lists}
+use Rattle.{std.proofs.lemmas.List.get_or_read, def_forest.specs.Forests.walk, def_forest.specs.Tables.out_of}
+use Rattle.{std.specs.Prelude.unsigned_abs, forest_laws.specs.Walks.listed, forest_laws.specs.Walks.writes}
 
 -- What is added is told otherwise.
 pub more_as : (F : ℕ → ℤ) (B : ℕ → Bool) (G : ℕ → ℤ) {m n : ℤ} → m ≡ n → ((v : ℕ) → F v ≡ cond (B v) (G v +ℤ m) (G v))
@@ -81,18 +71,11 @@ module _ {h0 h1 : Handles} {lists : Lists} {after : List ℕ} {front many k x bi
   before_off : (v : ℕ) → out v ≡ at k → in_row h0 after front k v ≡ false
   before_off v e = listed_off (λ i. get_or after i 0) front k (out v) (λ j lj w. row.distinct j k lj l (w ∙ e))
 
-  -- The greatest has its own handle all the while.
-  own_handle : at k ≡ big → (v : ℕ) → lists_at lists (at k) v ≡ true → get_or h1.hand.items v 0 ≡ handle
-  own_handle at_big v on = search (rules, listed_place)
-
   pub row_leaders : ((j : ℕ) × (j < many) × (at j ≡ big)) → HasLeaders h1 lists x big
-  row_leaders on = search (rules, own_handle)
+  row_leaders on = search (rules, listed_place)
 
   pub row_lists : ((j : ℕ) × (j < many) × (at j ≡ big)) → HasListAt h1 lists x
-  row_lists on = rw x_is (list_kept (has.each k l) done.hands done.qs (λ v. elim (cases_lt v (length h0.hand.items)) [
-    | inl lv ↦ by_test v lv (in_row h0 after front k v) (done.q v lv)
-    | inr h ↦ omega (arith, ints, get_or_past h1.q.items v (pos 0) (rw (done.qs ∙ (has.each k l).q) h))
-  ]))
+  row_lists on = rw x_is (list_kept (has.each k l) done.hands done.qs (search (rules, by_test, get_or_past)))
     where
       small_handle : unsigned_abs (get_or h0.off.items handle (pos 0)) ≤ 2 ^ 97
       small_handle = rw on.2 at (has.small_leaders on.0 on.1)
@@ -109,16 +92,12 @@ module _ {h0 h1 : Handles} {lists : Lists} {after : List ℕ} {front many k x bi
 
     pub row_more : {j : ℕ} → j ≡ suc k → HasRenamedRow h0 h2 lists after front j big
     row_more j_is = rw j_is (record {
-      hand = λ v lv. renamed_at.hand v ∙ rw (own v lv ∙ eqb_order (out v) (at k)) (elim (cases_eq (at k) (out v)) [
-        | inl e ↦ rw (eq-eqb (at k) (out v) e, or-true (in_row h0 after front k v))
-        | inr ne ↦ rw (ne_eqb (at k) (out v) ne, or-false (in_row h0 after front k v)) (done.hand v lv)
-      ]);
+      hand = λ v lv. renamed_at.hand v ∙ rw (own v lv ∙ eqb_order (out v) (at k)) (search rules);
       q = λ v lv. renamed_at.q v ∙ rw (own v lv ∙ eqb_order (out v) (at k)) (elim (cases_eq (at k) (out v)) [
         | inl e ↦ (let was : get_or h1.q.items v (pos 0) ≡ get_or h0.q.items v (pos 0) =
             done.q v lv ∙ cond-false _ _ _ (before_off v (sym e)) in
             let lead : get_or h0.off.items (get_or h0.hand.items v 0) (pos 0)
-            ≡ get_or h0.off.items (get_or lists.leader.items (at k) 0) (pos 0) = ap (λ j. get_or h0.off.items j (pos 0))
-            (has.led v lv ∙ ap (λ b. get_or lists.leader.items b 0) (sym e)) in
+            ≡ get_or h0.off.items (get_or lists.leader.items (at k) 0) (pos 0) = search rules in
             rw (eq-eqb (at k) (out v) e, or-true (in_row h0 after front k v)) (omega (arith, ints, was, lead)))
         | inr ne ↦ rw (ne_eqb (at k) (out v) ne, or-false (in_row h0 after front k v)) (done.q v lv)
       ]);
@@ -154,8 +133,3 @@ pub kept_handle : (h : Handles) (lists : Lists) {x big : ℕ} → x ≡ big
     → ((v : ℕ) → lists_at lists x v ≡ true → get_or h.hand.items v 0 ≡ get_or lists.leader.items big 0)
     → HasRenamed h h lists x (get_or lists.leader.items big 0) (differ_by h lists x big)
 kept_handle h lists {x} {big} e same = search rules
-
--- The handle and what it adds are told otherwise.
-pub renamed_as : {h0 h1 : Handles} {lists : Lists} {x a : ℕ} {b : ℕ} {m : ℤ} (n : ℤ) → HasRenamed h0 h1 lists x a m → a
-    ≡ b → m ≡ n → HasRenamed h0 h1 lists x b n
-renamed_as {h0} {h1} {lists} {x} {a} n is e f = rw e at (rw f at is)

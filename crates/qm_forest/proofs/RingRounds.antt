@@ -3,19 +3,18 @@ use Rattle.std.proofs.Common.{rules, ◌≡◌, ◌≢◌, ℕ, zero, suc, ◌+�
 use Rattle.std.proofs.Common.{◌&&◌, List, length, get_or, Option, Some, None, ◌⊎◌, refl, sym, ◌∙◌, ap, subst, inl, inr}
 use Rattle.std.proofs.Common.{arith, length-set, get_or-set_same, get_or-set_other}
 use Rattle.std.proofs.lemmas.Bool.{cases_eq, cases_lt, cases_Bool, eq-eqb, ne_eqb, lt-ltb, false_from_ne_true, le-ltb}
-use Rattle.{std.proofs.Math.ListN.set, def_matching.specs.Matching.WeightedGraph}
-use Rattle.def_forest.specs.{Darts.darts_of, Darts.other_dart, Forests.IsTight, Forests.bool_number, Forests.splits}
-use Rattle.def_forest.specs.{Forests.walk, Forests.ring_sum, Tables.ForestTables, Tables.forest_of, Tables.up_at}
-use Rattle.def_forest.specs.{Valid.IsRing}
+use Rattle.def_forest.specs.Forests.{IsTight, bool_number, splits, walk, ring_sum}
+use Rattle.def_forest.specs.Tables.{ForestTables, forest_of, up_at}
 use Rattle.forest_laws.proofs.Walks.{IsCircle, circle_from, listed_at, listed_closed, listed_place, walk_fixed}
-use Rattle.forest_laws.proofs.Walks.{walk_front}
-use Rattle.forest_laws.proofs.{Grows.tight_twin, Grows.option_cases, Grows.some_is, Bounds.are_darts, Bounds.twin_odd}
+use Rattle.forest_laws.proofs.{Walks.walk_front, Bounds.are_darts, Bounds.twin_odd}
+use Rattle.forest_laws.proofs.Grows.{tight_twin, option_cases, some_is}
 use Rattle.qm_forest.specs.Rounds.{IsSoundFor, IsEntry, IsLaminar, IsPairing, IsRound, entered, far_at, leaving}
 use Rattle.qm_forest.specs.Rounds.{near_at, waiting, waits_but, waits_for, within}
 use Rattle.qm_forest.proofs.Withins.{alone, another, ring_around, ring_pairing, rising, climb_law, in_where, rank_walk}
-use Rattle.qm_forest.proofs.Withins.{ring_front}
-use Rattle.qm_forest.proofs.Enclosed.{climbs_place}
-use Rattle.{def_math.specs.Counts.count_below, sum_laws.proofs.Sums.count_below_same, forest_laws.specs.Walks.listed}
+use Rattle.{std.proofs.Math.ListN.set, def_matching.specs.Matching.WeightedGraph, def_forest.specs.Darts.darts_of}
+use Rattle.{def_forest.specs.Darts.other_dart, def_forest.specs.Valid.IsRing, qm_forest.proofs.Withins.ring_front}
+use Rattle.{qm_forest.proofs.Enclosed.climbs_place, def_math.specs.Counts.count_below}
+use Rattle.{sum_laws.proofs.Sums.count_below_same, forest_laws.specs.Walks.listed}
 
 -- A term of a count.
 pub term_low : (f : ℕ → ℕ) (n k : ℕ) → k < n → f k ≤ count_below f n
@@ -28,8 +27,7 @@ pub count_changed : (f g : ℕ → ℕ) (n x : ℕ) → x < n → ((k : ℕ) →
 count_changed f g zero x l same = absurd (omega arith)
 count_changed f g (suc n) x l same =
     let more = λ (lx : x < n). count_changed f g n x lx (λ k lk. same k (omega arith)) in
-    let rest = λ (e : x ≡ n). count_below_same g f n (λ k lk. same k (omega arith) (λ at. absurd (omega arith))) in
-    grind (arith, same n)
+    search (rules, count_below_same)
 
 pub count_more : (f g : ℕ → ℕ) (n x : ℕ) → x < n → f x ≡ 0 → ((k : ℕ) → k < n → k ≢ x → g k ≡ f k)
     → count_below g n ≡ count_below f n + g x
@@ -42,10 +40,9 @@ entered_more : (t : ForestTables) (left : List (Option ℕ)) (x u b : ℕ) → x
 entered_more t left x u b low free zero' = elim (cases_lt x (length t.hand)) [
   | inl l ↦ rw (lt-ltb x (length t.hand) l) (omega (arith, zero' l))
   | inr h ↦ rw (le-ltb x (length t.hand) h, length-set left x (Some u))
-      (count_more (λ c. waits_for t b c (get_or left c None))
-      (λ c. waits_for t b c (get_or (set left x (Some u)) c None)) (length left) x low (ap (waits_for t b x) (free h))
-      (λ c lc ne. ap (waits_for t b c) (get_or-set_other left x c (Some u) None ne))
-      ∙ ap (λ (o : Option ℕ). waiting t left b + waits_for t b x o) (get_or-set_same left x (Some u) None low))
+      (count_more _ _ _ x low (ap (waits_for t b x) (free h)) (λ c lc ne. ap (waits_for t b c)
+      (get_or-set_other left x c (Some u) None ne)) ∙ ap (λ (o : Option ℕ). waiting t left b + waits_for t b x o)
+      (get_or-set_same left x (Some u) None low))
 ]
 
 pub entered_size : (n : ℕ) (left : List (Option ℕ)) (x u : ℕ) → length (entered n left x u) ≡ length left
@@ -85,12 +82,9 @@ module _ {t : ForestTables} (known : IsLaminar t) {g : WeightedGraph} (valid : I
       ≡ splits ((forest_of t).holds b) u v
   sides b = sides_of (near_at t) ((forest_of t).holds b) d
 
-  low_u : u < length t.up
-  low_u = omega arith
-
   -- The edge was not chosen.
   fresh : get_or marks e false ≡ false
-  fresh = false_from_ne_true (get_or marks e false) (λ on. (
+  fresh = false_from_ne_true _ (λ on. (
       let at_u : splits ((forest_of t).holds u) u v ≡ true = cc (
         alone known u u pairing.near_low pairing.near_low,
         eq-eqb u u refl,
@@ -101,9 +95,8 @@ module _ {t : ForestTables} (known : IsLaminar t) {g : WeightedGraph} (valid : I
       let one : bool_number (get_or marks e false && splits ((forest_of t).holds u) (near_at t (2 * e))
       (near_at t (2 * e + 1))) ≡ 1 = cc (sides u) in
       let some : bool_number (get_or marks e false && splits ((forest_of t).holds u) (near_at t (2 * e))
-      (near_at t (2 * e + 1))) ≤ leaving t marks u = term_low (λ k. bool_number (get_or marks k false && splits
-      ((forest_of t).holds u) (near_at t (2 * k)) (near_at t (2 * k + 1)))) _ e e_low in
-      omega (arith, ap bool_number pairing.near_held, round.each u low_u, round.once u pairing.near_low)))
+      (near_at t (2 * e + 1))) ≤ leaving t marks u = term_low _ _ e e_low in
+      omega (arith, ap bool_number pairing.near_held, round.each u (omega arith), round.once u pairing.near_low)))
 
   -- Neither blossom waited.
   free_of : (c : ℕ) → c < length t.up → (n ≤ c → get_or t.parts c 0 ≢ 0)
@@ -151,15 +144,13 @@ module _ {t : ForestTables} (known : IsLaminar t) {g : WeightedGraph} (valid : I
       let at = λ (xs : List Bool) (k : ℕ). bool_number (get_or xs k false && splits ((forest_of t).holds b)
       (near_at t (2 * k)) (near_at t (2 * k + 1))) in
       let other = λ (k : ℕ) (ne : k ≢ e). get_or-set_other marks e k true false ne in
-      let more = count_more (at marks) (at (set marks e true)) (length marks) e e_low (rw fresh)
-      (λ k lk ne. rw (other k ne)) in
+      let more = count_more (at marks) (at (set marks e true)) _ e e_low (rw fresh) (λ k lk ne. rw (other k ne)) in
       cc (length-set marks e true, get_or-set_same marks e true false e_low, sides b)
 
   entry_now : (c w : ℕ) → get_or (entered n first_left y v) c None ≡ Some w → IsEntry t c w
   entry_now c w is =
       let made : (z s : ℕ) → (n ≤ z) → c ≡ z → (n ≤ z → get_or t.parts z 0 ≢ 0) → s < n
-      → (forest_of t).holds z s ≡ true → s ≡ w → IsEntry t c w = λ z s high at live low held same.
-      rw (at, ← same) (record { high = high; live = live high; low = low; held = held }) in
+      → (forest_of t).holds z s ≡ true → s ≡ w → IsEntry t c w = search rules in
       elim (entry_cases n first_left y v c (rw (entered_size n left x u ∙ size_left) pairing.low_y)) [
         | inl s ↦ made y v s.0 s.1 pairing.live_y pairing.far_low pairing.far_held (some_is v w (sym s.2 ∙ is))
         | inr same ↦ elim (entry_cases n left x u c (rw size_left pairing.low_x)) [
@@ -214,8 +205,7 @@ module _ {t : ForestTables} (known : IsLaminar t) {g : WeightedGraph} (valid : I
 
   part : (x : ℕ) → inside x ≡ true → (up_at t.up x ≡ q) × (x ≢ q)
   part x on =
-      let w =
-      listed_place after _ many x on in (
+      let w = listed_place _ _ many x on in (
         ap (up_at t.up) (sym w.2) ∙ ring.inside w.0,
         (λ e. absurd (omega (arith, ring.lower w.0, ap (λ z. get_or t.rank z 0) (w.2 ∙ e)))),
       )
@@ -247,8 +237,7 @@ module _ {t : ForestTables} (known : IsLaminar t) {g : WeightedGraph} (valid : I
 
   -- Each part and the next are a pair.
   pub turn_pairing : (k : ℕ) {x y d : ℕ} → x ≡ at (2 * k) → y ≡ after x → d ≡ get_or t.joint x 0 → IsPairing t x y d
-  turn_pairing k {x} {y} x_is y_is d_is = rw (d_is, y_is, x_is)
-      (ring_pairing known valid (inner_part (at (2 * k)) (at_in (2 * k))))
+  turn_pairing k {x} {y} x_is y_is d_is = rw (d_is, y_is, x_is) (search (rules, ring_pairing, inner_part, at_in))
 
   -- Before the first pair.
   pub ring_begun : {marks : List Bool} {left : List (Option ℕ)} (rest : ℕ → ℕ) {due : ℕ → ℕ} {x : ℕ} (k : ℕ) → x
@@ -291,9 +280,7 @@ module _ {t : ForestTables} (known : IsLaminar t) {g : WeightedGraph} (valid : I
       λ b. (let two : many - 1 - 2 * k ≡ suc (suc (many - 1 - 2 * j)) = omega (arith, ring.odd, low, j_is) in
       let front = ring_front after (λ r. bool_number (within t b r)) in
       rw (y_is, two) (omega (arith, front x (suc (many - 1 - 2 * j)), front (after x) (many - 1 - 2 * j)))) in
-      rw (marks_is, left_is) (paired_round known valid marks left x y d (λ b. sum_from (after y) (many - 1 - 2 * j) b +
-      rest b) due size_marks size_left (round_rest (λ b. (bool_number (within t b x) + bool_number (within t b y)) +
-      (sum_from (after y) (many - 1 - 2 * j) b + rest b)) (λ b l. peeled b) round) (turn_pairing k x_is y_is d_is))
+      rw (marks_is, left_is) (search (rules, paired_round, round_rest, turn_pairing))
 
   -- All pairs.
   pub ring_ended : {marks : List Bool} {left : List (Option ℕ)} (rest : ℕ → ℕ) {due : ℕ → ℕ} (k x : ℕ) → k ≡ many / 2
@@ -313,9 +300,8 @@ module _ {t : ForestTables} (known : IsLaminar t) {g : WeightedGraph} (valid : I
         ap (λ z. get_or t.rank z 0) (part x on).0,
         low_q,
       ) in
-      round_rest (λ b. sum_from (after p) (many - 1) b + (cond (within t b q) 0 (waits_but t b c v) + rest b))
-      (λ b l. (let law = climb_law (rising known) q v
-      circle part parts low low_q low_c held j climbs' b in omega arith)) round
+      round_rest _ (λ b l. (let law = climb_law (rising known) q v circle part parts low low_q low_c held j climbs' b in
+      omega arith)) round
 
 -- Going up from a vertex: at it, at each step, and at the end.
 module _ {t : ForestTables} (known : IsLaminar t) {v : ℕ} (c : ℕ) (lv : v < length t.hand)

@@ -88,31 +88,26 @@ module _ {g : WeightedGraph} {t0 : ForestTables} {b : ℕ} (ready : CanOpen g t0
   -- Against it.
   route_back : IsRoute ready parted (λ j. at (many - j)) (λ j. d.twin (joint (at (many - suc j))))
   route_back = record {
-    begins = at_same (many - 0) many (omega arith) ∙ circle.closed;
+    begins = at_same _ _ (omega arith) ∙ circle.closed;
     marked = λ j. circle.marked (many - j);
     distinct = λ i j lij lj e. elim (cases_eq i 0) [
       | inl z ↦ circle.distinct 0 (many - j) (omega (arith, ring_is.odd, lj)) (omega (arith, ring_is.odd, lij, lj))
-          (sym circle.closed ∙ (at_same many (many - i) (omega (arith, z)) ∙ e))
+          (sym circle.closed ∙ (at_same _ _ (omega (arith, z)) ∙ e))
       | inr nz ↦ circle.distinct (many - j) (many - i) (omega (arith, ring_is.odd, lij, lj))
           (omega (arith, ring_is.odd, lij, lj, nz)) (sym e)
     ];
     all = λ x on. (let w = circle.all x on in elim (cases_eq w.0 0) [
-      | inl z ↦ (0, omega arith, at_same (many - 0) many (omega arith) ∙ (circle.closed ∙ (ap at (sym z) ∙ w.2)))
-      | inr nz ↦ (
-        many - w.0,
-        omega (arith, ring_is.odd, nz),
-        at_same (many - (many - w.0)) w.0 (omega (arith, w.1)) ∙ w.2,
-      )
+      | inl z ↦ (0, omega arith, at_same _ _ (omega arith) ∙ (circle.closed ∙ (ap at (sym z) ∙ w.2)))
+      | inr nz ↦ (many - w.0, omega (arith, ring_is.odd, nz), at_same _ _ (omega (arith, w.1)) ∙ w.2)
     ]);
-    tight = λ j l. tight_twin are (joint_at (many - suc j)).tight;
+    tight = λ j l. tight_twin are (joint_at _).tight;
     near = λ j l. (
-      (joint_at (many - suc j)).far_in,
-      (joint_at (many - suc j)).far_part ∙ at_same (suc (many - suc j)) (many - j) (omega (arith, ring_is.odd, l)),
+      (joint_at _).far_in,
+      (joint_at _).far_part ∙ at_same (suc (many - suc j)) _ (omega (arith, ring_is.odd, l)),
     );
     far = λ j l. (
-      ap f0.out (far_twin are (joint (at (many - suc j)))) ∙ (joint_at (many - suc j)).near_in,
-      ap f2.out (far_twin are (joint (at (many - suc j))))
-          ∙ ((joint_at (many - suc j)).near_part ∙ at_same (many - suc j) (many - (j + 1)) (omega arith)),
+      ap f0.out (far_twin are _) ∙ (joint_at _).near_in,
+      ap f2.out (far_twin are _) ∙ ((joint_at _).near_part ∙ at_same _ _ (omega arith)),
     );
   }
 
@@ -121,9 +116,6 @@ module _ {g : WeightedGraph} {t0 : ForestTables} {b : ℕ} (ready : CanOpen g t0
 
   other_off : (x : ℕ) → f0.nest.up x ≢ b → inside x ≡ false
   other_off x ne = false_from_ne_true (inside x) (λ on. ne (part_around ready x on))
-
-  part_label : (x : ℕ) → inside x ≡ true → f2.label x ≡ Outside
-  part_label x on = cc (set_there f0.label b x Outside (part_other ready x on), part_outside ready x on)
 
   -- The parts are matched along the ring, the first one as the set was.
   abbrev matched : Forest
@@ -143,9 +135,8 @@ module _ {g : WeightedGraph} {t0 : ForestTables} {b : ℕ} (ready : CanOpen g t0
     f6 = laid front count forward
 
     mate_at : (k : ℕ) → 1 ≤ k → k < many → f6.mate (at k) ≡ Some (side_dart f2 (at (k - 1)) (at k) (eqb (k % 2) 1))
-    mate_at k some l = set_there (paired f2 first many).mate first (at k) (Some in_tree.dart)
-        (λ e. circle.distinct 0 k some l (sym e)) ∙ writes_at f2.mate at
-        (λ j. Some (side_dart f2 (at (j - 1)) (at j) (eqb (j % 2) 1))) many k l circle.distinct
+    mate_at k some l = set_there (paired f2 _ _).mate _ _ _ (λ e. circle.distinct 0 k some l (sym e)) ∙ writes_at _
+        at (λ j. Some (side_dart f2 (at (j - 1)) (at j) (eqb (j % 2) 1))) many k l circle.distinct
 
     mate_odd : (k i : ℕ) → k ≡ 2 * i + 1 → k < many → f6.mate (at k) ≡ Some (joint (at k))
     mate_odd k i e l = search (rules, mate_at, cond-true, eq-eqb)
@@ -183,8 +174,7 @@ module _ {g : WeightedGraph} {t0 : ForestTables} {b : ℕ} (ready : CanOpen g t0
     sides k = side_dart f2 (way (k - 1)) (way k) forward
 
     link_at : (k : ℕ) → k < count → way k ≢ last → f6.link (way k) ≡ sides k
-    link_at k l ne = set_there (hung matched front count forward).link last (way k) (f0.link b) ne
-        ∙ writes_at f2.link way sides count k l differ
+    link_at k l ne = set_there (hung matched front count forward).link _ _ _ ne ∙ writes_at _ _ _ _ k l differ
 
     label_off : (x : ℕ) → inside x ≡ false → f6.label x ≡ f2.label x
     label_off x off = label_missed x (λ k lk e. true_false (ap inside (sym e) ∙ ring.marked k) off)
@@ -244,19 +234,21 @@ module _ {g : WeightedGraph} {t0 : ForestTables} {b : ℕ} (ready : CanOpen g t0
   expanding_on : {steps : ℕ} → steps < many → at steps ≡ last → steps % 2 ≡ 0
       → IsExpanding d f0 (laid first (steps + 1) true) b
   expanding_on {steps} low ends even =
-      let lies : IsLaid first (steps + 1) true = record { marked = first_in ready parted; few = omega (arith, low) } in
+      let lies : IsLaid first (steps + 1) true = record { marked = first_in _ parted; few = omega (arith, low) } in
       expanding_at lies route_on (omega (arith, low, ring_is.odd)) (record {
-        inners = λ i l. label_at lies (2 * i) (omega (arith, l)) ∙ even_is (2 * i) i refl;
-        outers = λ i l. label_at lies (2 * i + 1) (omega (arith, l)) ∙ odd_is (2 * i + 1) i refl;
+        inners = λ i l. label_at lies (2 * i) (omega (arith, l)) ∙ even_is _ i refl;
+        outers = λ i l. label_at lies (2 * i + 1) (omega (arith, l)) ∙ odd_is _ i refl;
         off = λ j more l. label_missed lies (at j) (λ k lk. circle.distinct k j (omega (arith, lk, more, even))
-            (omega (arith, l, ring_is.odd))) ∙ part_label (at j) (circle.marked j);
+            (omega (arith, l, ring_is.odd))) ∙ (cc (
+              set_there f0.label b _ Outside (part_other ready _ (circle.marked j)),
+              part_outside ready _ (circle.marked j),
+            ));
         first_mate = mate_first lies;
-        odd_mate = λ i l. mate_odd lies (2 * i + 1) i refl (omega (arith, ring_is.odd, l));
-        even_mate = λ i l. mate_even lies (2 * i + 2) (2 * i + 1) i refl (omega arith)
-            (omega (arith, ring_is.odd, l));
+        odd_mate = λ i l. mate_odd lies _ i refl (omega (arith, ring_is.odd, l));
+        even_mate = λ i l. mate_even lies _ _ i refl (omega arith) (omega (arith, ring_is.odd, l));
         links = λ i l. link_at lies (2 * i) (omega (arith, l))
             (λ e. circle.distinct (2 * i) steps (omega (arith, l)) low (e ∙ sym ends));
-        ends = at_same (2 * (steps / 2)) steps (omega (arith, even)) ∙ ends;
+        ends = at_same (2 * (steps / 2)) _ (omega (arith, even)) ∙ ends;
       })
 
   -- The tree goes against the ring.
@@ -279,8 +271,7 @@ module _ {g : WeightedGraph} {t0 : ForestTables} {b : ℕ} (ready : CanOpen g t0
     label_back : (k j : ℕ) → k < many - steps + 1 → steps + k ≡ j → back.label (at j) ≡ turn_label k
     label_back k j l e = ap back.label (sym (way_at k j e)) ∙ label_at lies k l
 
-    missed : (k j : ℕ) → k < many - steps + 1 → 2 * turns < j → j ≤ 2 * ring_is.half
-        → walk next last k ≢ at (many - j)
+    missed : (k j : ℕ) → k < many - steps + 1 → 2 * turns < j → j ≤ 2 * ring_is.half → walk next last k ≢ at (many - j)
     missed k j lk more lj e = elim (cases_lt (steps + k) many) [
       | inl l ↦ circle.distinct (many - j) (steps + k) (omega (arith, more, twice, lj, ring_is.odd)) l
           (sym e ∙ way_at k (steps + k) refl)
@@ -298,20 +289,21 @@ module _ {g : WeightedGraph} {t0 : ForestTables} {b : ℕ} (ready : CanOpen g t0
         twice,
         low,
       )) ∙ odd_is (many - steps - (2 * i + 1)) (turns - suc i) (omega (arith, l, twice));
-      off = λ j more l. label_missed lies (at (many - j)) (λ k lk. missed k j lk more l)
-          ∙ part_label (at (many - j)) (circle.marked (many - j));
+      off = λ j more l. label_missed lies (at (many - j)) (λ k lk. missed k j lk more l) ∙ (cc (
+        set_there f0.label b (at (many - j)) Outside (part_other ready (at (many - j)) (circle.marked (many - j))),
+        part_outside ready (at (many - j)) (circle.marked (many - j)),
+      ));
       first_mate = ap back.mate (at_same (many - 0) many (omega arith) ∙ circle.closed) ∙ mate_first lies;
-      odd_mate = λ i l. mate_even lies (many - (2 * i + 1)) (many - suc (2 * i + 1)) (ring_is.half - suc i)
+      odd_mate = λ i l. mate_even lies _ _ (ring_is.half - suc i)
           (omega (arith, ring_is.odd, l)) (omega (arith, ring_is.odd, l)) (omega (arith, ring_is.odd));
-      even_mate = λ i l. mate_odd lies (many - (2 * i + 2)) (ring_is.half - suc i)
-          (omega (arith, ring_is.odd, l)) (omega (arith, ring_is.odd)) ∙ ap (λ (x : ℕ). Some x)
-          (ap joint (at_same (many - (2 * i + 2)) (many - suc (2 * i + 1)) (omega arith))
+      even_mate = λ i l. mate_odd lies _ (ring_is.half - suc i) (omega (arith, ring_is.odd, l))
+          (omega (arith, ring_is.odd)) ∙ ap (λ (x : ℕ). Some x) (ap joint (at_same _ _ (omega arith))
           ∙ sym (are.twin_twin (joint (at (many - suc (2 * i + 1))))));
-      links = λ i l. ap back.link (sym (way_at (many - steps - 2 * i) (many - 2 * i) (omega (arith, l, twice, low))))
+      links = λ i l. ap back.link (sym (way_at _ _ (omega (arith, l, twice, low))))
           ∙ (link_at lies (many - steps - 2 * i) (omega arith) (λ e. differ lies 0 (many - steps - 2 * i)
           (omega (arith, l, twice)) (omega arith) (sym e)) ∙ ap (λ x. d.twin (joint x))
-          (way_at (many - steps - 2 * i - 1) (many - suc (2 * i)) (omega (arith, l, twice, low))));
-      ends = at_same (many - 2 * turns) steps (omega (arith, twice, low)) ∙ ends;
+          (way_at _ _ (omega (arith, l, twice, low))));
+      ends = at_same _ _ (omega (arith, twice, low)) ∙ ends;
     })
 
   -- A course goes one way or the other.

@@ -149,8 +149,7 @@ module _ {g : WeightedGraph} {t0 : ForestTables} {start top left right : ℕ}
   joint = (laid_ring d f start left right).nest.joint
 
   after_at : (k : ℕ) → k < many → after (at k) ≡ at (suc k)
-  after_at = lain_at f.nest.after way_a c (λ i. way_c (suc i)) (λ k. at (suc k)) (λ k l.
-      (let s : left - k - 1 ≡ left - suc k = omega arith in ap way_a s ∙ sym (at_left fork (suc k) (omega arith))))
+  after_at = lain_at f.nest.after way_a c (λ i. way_c (suc i)) (λ k. at (suc k)) (search rules)
       (sym (at_right fork _ 0 (omega arith))) (λ m l. sym (at_right fork _ (suc m) (omega arith)))
 
   joint_at : (k : ℕ) → k < many → joint (at k) ≡ ring_dart d f a c left start k
@@ -186,16 +185,13 @@ module _ {g : WeightedGraph} {t0 : ForestTables} {start top left right : ℕ}
   spot_used k l = (let w = spot_out k l in holder_used are valid.valid.nested w.1
       (rw w.2 at (valid.valid.outermost.held w.0 w.0 w.1 w.1 ∙ eq-eqb (f.out w.0) (f.out w.0) refl)))
 
-  three_many : 3 ≤ many
-  three_many = omega (arith, ring_is.odd, ring_is.some)
-
   -- Three blossoms are on the ring, so that there is room for a set more.
   pub room_is : 2 * live_sets t0 + 3 ≤ length t0.hand
-  room_is = rw valid.vertices (sets_few d are f valid.valid.nested valid.valid.outermost.vertices (walk after top)
-      (λ k l. spot_low k (omega (arith, three_many)))
-      (λ i j lij lj. ring_is.distinct i j lij (omega (arith, three_many)))
-      (λ k l. (let w = spot_out k (omega (arith, three_many)) in
-      rw w.2 at (valid.valid.outermost.tops w.0 w.1))) (λ k l. spot_used k (omega (arith, three_many))))
+  room_is = rw valid.vertices (sets_few d are f valid.valid.nested valid.valid.outermost.vertices _
+      (λ k l. spot_low k (omega (arith, ring_is.odd, ring_is.some))) (λ i j lij lj. ring_is.distinct i j lij
+      (omega (arith, ring_is.odd, ring_is.some))) (λ k l. (let w = spot_out k (omega (arith, ring_is.odd, ring_is.some))
+      in
+      rw w.2 at (valid.valid.outermost.tops w.0 w.1))) (λ k l. spot_used k (omega (arith, ring_is.odd, ring_is.some))))
 
   -- The ring that is laid is one of outermost blossoms.
   pub tops_laid : (t1 : ForestTables) → forest_of t1 ≡ laid_ring d f start left right
@@ -237,7 +233,7 @@ module _ {g : WeightedGraph} {t0 : ForestTables} {start top left right : ℕ}
         low = λ k l. rw (nest_is.up, spot_is k) (spot_low k l);
         distinct = λ i j lij lj e. ring_is.distinct i j lij lj (sym (spot_is i) ∙ (e ∙ spot_is j));
       };
-      two = omega (arith, three_many);
+      two = omega (arith, ring_is.odd, ring_is.some);
       tops = λ k l. rw (spot_is k) (outermost_same (walk after top k) (walk_named k l));
       outside = λ k l. ap (label_at t2.label) (spot_is k) ∙ (ap (λ (y : Forest). y.label (walk after top k)) was
           ∙ (writes_all f.label after top many Outside _ ∙ cond-true _ _ _ (listed_at after top many k l)));

@@ -3,16 +3,15 @@ use Rattle.std.proofs.Common.{rules, ◌≡◌, ◌≢◌, ℕ, ◌<◌, cond, L
 use Rattle.std.proofs.Common.{Bool, ◌≤ℤ◌, arith, zero, suc, ◌*◌, ◌≤◌, ◌^◌, true, false, get_or, ◌+ℤ◌, ◌+◌, [], ◌∷◌}
 use Rattle.std.proofs.Common.{◌++◌, count_by, ◌-ℤ◌, refl, length-set, get_or-set_same, get_or-set_other}
 use Rattle.std.proofs.{lemmas.Int.ints, lemmas.Bool.cases_eq, lemmas.Option.slice_get-get_or, Math.ListN.set}
-use Rattle.std.proofs.{Math.Path.fun_ext, lemmas.List.get_or_append_left, lemmas.List.get_or_push}
-use Rattle.std.proofs.{lemmas.List.length_push, lemmas.List.Sums.count_by-le-length, lemmas.List.Sums.sum_by-set}
-use Rattle.sum_laws.proofs.Sums.{total_below_same}
+use Rattle.std.proofs.{Math.Path.fun_ext, lemmas.List.Sums.count_by-le-length, lemmas.List.Sums.sum_by-set}
+use Rattle.std.proofs.lemmas.List.{get_or_append_left, get_or_push, length_push}
 use Rattle.def_forest.specs.Tables.{ForestTables, climbs, label_at, out_of, up_at, weight_at, forest_of, IsOutermostIn}
-use Rattle.def_forest.specs.{declared.kinds.Label.Label, declared.kinds.Label.TheVariants.Outside, Forests.dual_sum_of}
-use Rattle.def_forest.specs.{Forests.set_at, Steps.weight_change}
+use Rattle.def_forest.specs.{declared.kinds.Label.Label, declared.kinds.Label.TheVariants.Outside, Forests.set_at}
 use Rattle.qm_forest.specs.Ties.{AreTied, HiddenTables, HasSizes, HasNumbers, IsLaidOut, IsPooled, IsTrailed, added}
 use Rattle.qm_forest.specs.Ties.{told, potential, IsOnTrail, labelled, mated, linked}
+use Rattle.{sum_laws.proofs.Sums.total_below_same, def_forest.specs.Steps.weight_change, std.specs.Prelude.unsigned_abs}
+use Rattle.{def_math.specs.Sums.total_below, forest_laws.proofs.Grows.by_none}
 use mir.{Syntax.w128, Val.to_z, Val.of_z}
-use Rattle.{std.specs.Prelude.unsigned_abs, def_math.specs.Sums.total_below, forest_laws.proofs.Grows.by_none}
 
 -- The tie, from what is said of so many vertices and numbers of blossoms.
 pub tied_as : {t : ForestTables} {hid : HiddenTables} {n size : ℕ} → length t.hand ≡ n → length t.up ≡ size
@@ -84,20 +83,29 @@ pub change_small : (l : Label) (d : ℤ) → unsigned_abs (weight_change l d) �
 change_small l d = grind (arith, ints)
 
 module _ {t : ForestTables} {hid : HiddenTables} (tied : AreTied t hid) where
-  pub sum_is_small : unsigned_abs (dual_sum_of (forest_of t)) ≤ 2 ^ 88
-  sum_is_small = omega (arith, sum_small (forest_of t).weight (length t.up) (λ k l. tied.numbers.small k))
-
   pub delta_small : unsigned_abs t.delta ≤ 2 ^ 92
-  delta_small = omega (arith, ints, sum_is_small, tied.numbers.small_start, tied.numbers.risen.0, tied.numbers.risen.1)
+  delta_small = omega (
+    arith,
+    ints,
+    sum_small (forest_of t).weight (length t.up) (λ k l. tied.numbers.small k),
+    tied.numbers.small_start,
+    tied.numbers.risen.0,
+    tied.numbers.risen.1,
+  )
 
   pub added_small : (v : ℕ) → v < length t.hand → unsigned_abs (added t.hand t.top hid.off t.label t.delta v) ≤ 2 ^ 92
-  added_small v l = omega (arith, ints, sum_is_small, tied.numbers.small_start, tied.numbers.moved v l)
+  added_small v l = omega (
+    arith,
+    ints,
+    sum_small (forest_of t).weight (length t.up) (λ k l. tied.numbers.small k),
+    tied.numbers.small_start,
+    tied.numbers.moved v l,
+  )
 
   pub potential_small : (v : ℕ) → unsigned_abs (potential (forest_of t) v) ≤ 2 ^ 88
   potential_small v =
       let sum = sum_small (λ b. cond ((forest_of t).holds b v) ((forest_of t).weight b) (pos 0)) (length t.up)
-      (λ b l. elim ((forest_of t).holds b v) as (λ s. unsigned_abs (cond s ((forest_of t).weight b) (pos 0)) ≤ 2 ^ 62)
-      [ true ↦ tied.numbers.small b | false ↦ omega (arith, ints) ]) in
+      (search rules) in
       omega arith
 
   pub told_small : (v : ℕ) → v < length t.hand → unsigned_abs (told hid.q t.hand t.top hid.off t.label t.delta v)
@@ -123,12 +131,6 @@ pub added_bound : {t : ForestTables} {hid : HiddenTables} → AreTied t hid → 
     → xs ≡ hid.off → h ≡ get_or t.hand v 0 → l ≡ label_at t.label (out_of t.hand t.top v) → d ≡ t.delta
     → get_or xs h (pos 0) +ℤ weight_change l d ≡ added t.hand t.top hid.off t.label t.delta v
 added_bound tied v low h l e1 e2 e3 e4 = rw (e1, e2, e3, e4)
-
--- What the tables at hand tell of a potential.
-pub told_bound : {t : ForestTables} {hid : HiddenTables} → AreTied t hid → (v : ℕ) → v < length t.hand
-    → {qs : List ℤ} {more : ℤ} → qs ≡ hid.q → more ≡ added t.hand t.top hid.off t.label t.delta v
-    → get_or qs v (pos 0) +ℤ more ≡ potential (forest_of t) v
-told_bound tied v low e1 e2 = rw (e1, e2) (sym (tied.numbers.potentials v low))
 
 -- A weight as it is kept is small.
 pub base_small : {t : ForestTables} {hid : HiddenTables} → AreTied t hid → (b : ℕ)
@@ -162,9 +164,7 @@ sizes_kept s bases labels offs size more = omega arith
 -- The forest sees a mate that is written, and a link.
 pub seen_mate : {t : ForestTables} {hid : HiddenTables} → AreTied t hid → (b : ℕ) (m : Option ℕ) → b < length t.up
     → forest_of (record t { mate = set t.mate b m }) ≡ mated (forest_of t) b m
-seen_mate {t} tied b m low i = record (forest_of t) {
-  mate = entry_set t.mate b m None (omega arith) i;
-}
+seen_mate {t} tied b m low i = record (forest_of t) { mate = entry_set t.mate b m None (omega arith) i }
 
 pub seen_link : {t : ForestTables} {hid : HiddenTables} → AreTied t hid → (b d : ℕ) → b < length t.up
     → forest_of (record t { link = set t.link b d }) ≡ linked (forest_of t) b d
@@ -203,9 +203,7 @@ module _ {t : ForestTables} {hid : HiddenTables} (tied : AreTied t hid) {v b h :
   added_same : (u : ℕ) → u < length t.hand → added t.hand t.top (set hid.off h y) (set t.label b l) t.delta u
       ≡ added t.hand t.top hid.off t.label t.delta u
   added_same u lu = elim (cases_eq (get_or t.hand u 0) h) [
-    | inl e ↦ (let top_is : get_or t.top h 0 ≡ b = rw h_is (sym b_is) in
-        let h_low : h < length hid.off = rw (tied.sizes.off, h_is) (tied.nest.hands v low) in
-        rw (e, get_or-set_same hid.off h y (pos 0) h_low, top_is, label_here) off_is)
+    | inl e ↦ search (rules, label_here)
     | inr ne ↦ rw (
       get_or-set_other hid.off h (get_or t.hand u 0) y (pos 0) ne,
       label_there _ (λ e. ne (one_hand tied u v lu low (e ∙ b_is) ∙ sym h_is)),
@@ -216,8 +214,7 @@ module _ {t : ForestTables} {hid : HiddenTables} (tied : AreTied t hid) {v b h :
   pub tied_label : AreTied (record t { base = set t.base b x; label = set t.label b l })
       (record hid { off = set hid.off h y })
   tied_label = record {
-    sizes = sizes_kept tied.sizes (length-set t.base b x) (length-set t.label b l) (length-set hid.off h y) refl
-        (omega arith);
+    sizes = search rules;
     nest = tied.nest;
     numbers = numbers_as tied.numbers weight_same added_same (tied.numbers.risen.0, omega (arith, ints))
         tied.numbers.still;
@@ -226,8 +223,7 @@ module _ {t : ForestTables} {hid : HiddenTables} (tied : AreTied t hid) {v b h :
       counted = tied.trail.counted;
       marked = tied.trail.marked;
       named = λ k n. elim (cases_eq k b) [
-        | inl e ↦ (let w = here (λ off. n (ap (label_at (set t.label b l)) e ∙ (label_here ∙ off))) in
-            (w.0, w.1, ap (out_of t.hand t.top) w.2 ∙ (sym b_is ∙ sym e)))
+        | inl e ↦ search (rules, label_here)
         | inr ne ↦ tied.trail.named k (λ off. n (label_there k ne ∙ off))
       ];
     };

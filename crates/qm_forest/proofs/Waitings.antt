@@ -2,26 +2,24 @@
 use Rattle.std.proofs.Common.{rules, ◌≡◌, ◌≢◌, ℕ, ◌+◌, ◌<◌, ◌≤◌, cond, eqb, List, length, get_or, count_by, is_some}
 use Rattle.std.proofs.Common.{◌⊎◌, Option, Some, None, refl, ◌∙◌, ap, inl, inr, arith, length-set, get_or-set_same}
 use Rattle.std.proofs.Common.{get_or-set_other, zero, suc, ◌*◌, Bool, false, sum_by, ◌∷◌, [], ◌++◌, ℤ, pos, ◌+ℤ◌, ◌≤ℤ◌}
-use Rattle.std.proofs.Common.{sym}
+use Rattle.std.proofs.{Common.sym, lemmas.List.Sorted.IsNonDecreasingBy-from_all_adjacent, Math.ListN.set}
+use Rattle.std.proofs.{lemmas.List.Sums.sum_by-set, lemmas.List.Sums.sum_by-cons, lemmas.Int.ints}
 use Rattle.std.proofs.lemmas.Bool.{cases_eq, cond-false, le-ltb, cases_lt, cond-true, eq-eqb, lt-ltb, ne_eqb}
 use Rattle.std.proofs.lemmas.Option.{slice_get-get_or, slice_get_past, slice_get_within, get_or_from_slice_get}
 use Rattle.std.proofs.lemmas.List.{get_or_append_left, get_or-append_right, get_or_past, get_or_read, length-append}
 use Rattle.std.proofs.lemmas.List.Elements.{All-push, Contains-push, Contains-append_left}
 use Rattle.std.proofs.lemmas.List.Sorted.{sum_by-IsPermutation, All-permutation, Contains-permutation}
-use Rattle.std.proofs.lemmas.List.Sorted.{IsNonDecreasingBy-from_all_adjacent}
-use Rattle.std.proofs.{Math.ListN.set, lemmas.List.Sums.sum_by-set, lemmas.List.Sums.sum_by-cons, lemmas.Int.ints}
-use Rattle.std.proofs.{lemmas.Bool.Decides.nat_tests}
-use Rattle.std.specs.{Prelude.slice_get, Prelude.nat_lt, Prelude.unsigned_abs, List.Sorted.IsNonDecreasingBy}
-use Rattle.std.specs.{List.Sorted.IsPermutation, List.Sorted.IsSorted, Ordering.is_lt, Ordering.nat_cmp}
-use Rattle.std.specs.{Ordering.ordering_then}
-use Rattle.def_math.specs.{Counts.count_below, Counts.count, Sums.total_below}
+use Rattle.std.specs.List.Sorted.{IsNonDecreasingBy, IsPermutation, IsSorted}
+use Rattle.std.specs.Ordering.{is_lt, nat_cmp, ordering_then}
 use Rattle.def_forest.specs.{Forests.live_at, Forests.bool_number, Tables.ForestTables, Tables.up_at}
 use Rattle.qm_forest.specs.Outlines.{AreDistinct, AreEntries, AreWeights, IsListOf, set_in}
-use Rattle.qm_forest.specs.{Rounds.AreInOrder, Rounds.HasSets, Rounds.IsEntry, Rounds.IsRound, Rounds.IsSized}
-use Rattle.qm_forest.specs.{Rounds.WaitWithin, Rounds.waiting, Rounds.waits_but, Rounds.waits_for, Ties.IsPooled}
-use Rattle.qm_forest.proofs.RingRounds.{count_changed, count_more}
+use Rattle.qm_forest.specs.Rounds.{AreInOrder, HasSets, IsEntry, IsRound, IsSized, WaitWithin, waiting, waits_but}
 use Rattle.sum_laws.proofs.Sums.{count_append, count_below_none, count_below_one, count_below_total, count_total}
-use Rattle.sum_laws.proofs.Sums.{total_below_none, total_below_same}
+use Rattle.{std.proofs.lemmas.Bool.Decides.nat_tests, std.specs.Prelude.slice_get, std.specs.Prelude.nat_lt}
+use Rattle.{std.specs.Prelude.unsigned_abs, def_math.specs.Counts.count_below, def_math.specs.Counts.count}
+use Rattle.{def_math.specs.Sums.total_below, qm_forest.specs.Rounds.waits_for, qm_forest.specs.Ties.IsPooled}
+use Rattle.{qm_forest.proofs.RingRounds.count_changed, qm_forest.proofs.RingRounds.count_more}
+use Rattle.{sum_laws.proofs.Sums.total_below_none, sum_laws.proofs.Sums.total_below_same}
 use Rattle.{qm_pool.specs.declared.pool.Node.Node, qm_dual.proofs.Tallies.total_entries}
 
 -- An entry of the pool has a node where its number has parts.
@@ -61,24 +59,17 @@ module _ {n size : ℕ} {parts : List ℕ} {pool : List (Option Node)} (pooled :
   there : (k : ℕ) → k ≢ id → slice_get pool2 k ≡ slice_get pool k
   there k ne = grind (arith, slice_get-get_or, slice_get_past, get_or-set_other pool id k new None ne, pool_size)
 
-  set_at : (k : ℕ) → k ≡ id → get_or parts2 (n + k) 0 ≡ many
-  set_at k e = ap (λ x. get_or parts2 x 0) (let at : n + k ≡ b = omega arith in at) ∙ at_b
-
-  old_at : (k : ℕ) → k ≢ id → get_or parts2 (n + k) 0 ≡ get_or parts (n + k) 0
-  old_at k ne = at_old (n + k) (λ e. ne (omega arith))
-
   -- The number is counted before and after as the pool counts its entry.
   live_b : (parts' : List ℕ) {m : ℕ} → get_or parts' b 0 ≡ m → live_at n (λ i. get_or parts' i 0) b ≡ cond (eqb m 0) 0 1
   live_b parts' is = cond-false _ _ _ (le-ltb b n high) ∙ ap (λ k. cond (eqb k 0) 0 1) is
 
   counted : count_by is_some pool2 ≡ count_below (live_at n (λ i. get_or parts2 i 0)) size
   counted =
-      let sum = sum_by-set (λ (o : Option Node). cond (is_some o) 1 0) pool id new None id_low in
-      let entry = ap {B = ℕ} (λ (o : Option Node). cond (is_some o) 1 0) (get_or_from_slice_get pool id was None was_is)
-      in
-      let count = count_changed (live_at n (λ i. get_or parts i 0)) (live_at n (λ i. get_or parts2 i 0)) size b low
+      let sum = sum_by-set (λ (o : Option Node). cond (is_some o) 1 0) _ id new None id_low in
+      let entry = ap {B = ℕ} (λ (o : Option Node). cond (is_some o) 1 0) (get_or_from_slice_get _ id _ None was_is) in
+      let count = count_changed _ _ _ b low
       (λ x lx ne. ap (λ m. cond (nat_lt x n) 0 (cond (eqb m 0) 0 1)) (at_old x ne)) in
-      omega (arith, live_b parts refl, live_b parts2 at_b, fit_count old_fit, fit_count new_fit)
+      omega (arith, live_b parts refl, live_b _ at_b, fit_count old_fit, fit_count new_fit)
 
   pub pool_changed : IsPooled n size (set parts b many) (set pool id new)
   pool_changed = search (rules, here, there, counted)
@@ -155,14 +146,13 @@ module _ {t : ForestTables} {sets : List (ℕ × ℕ)} (order : AreInOrder t set
       ≡ total_below f (length t.up)
   sum_parts f vertices high none =
       let places = total_entries (λ (set : ℕ × ℕ). pos (size set.1)) (0, 0) sets in
-      let same = total_below_same (λ k. f (set_in sets k)) (λ k. pos (size (set_in sets k))) (length sets)
+      let same = total_below_same _ _ _
       (λ k l. is_size (f (set_in sets k)) (high (set_in sets k) (sized k l).high (set_low k l))) in
       let counted = ap (λ (m : ℕ). pos m) (order.has.counts size) in
       let below = count_below_total lives (length t.up) in
-      let terms = total_below_same (λ b. pos (lives b)) (λ b. cond (nat_lt b (length t.hand)) (pos 0) (f b))
-      (length t.up) term in
+      let terms = total_below_same _ _ _ term in
       let all = count_total (λ (set : ℕ × ℕ). size set.1) sets in
-      let split = split_at f (length t.hand) (length t.up) vertices in
+      let split = split_at f _ _ vertices in
       omega (arith, ints)
     where
       size : ℕ → ℕ
@@ -211,19 +201,15 @@ taken {t} {left} c v low here round = record {
   where
     less : (b : ℕ) → waiting t left b ≡ waiting t (set left c None) b + waits_but t b c v
     less b = cc (
-      count_more (λ k. waits_for t b k (get_or (set left c None) k None))
-          (λ k. waits_for t b k (get_or left k None)) (length left) c low (ap (waits_for t b c)
-          (get_or-set_same left c None None low)) (λ k lk ne. ap (waits_for t b k)
-          (sym (get_or-set_other left c k None None ne))),
+      count_more (λ k. waits_for t b k (get_or (set left c None) k None)) (λ k. waits_for t b k (get_or left k None))
+          (length left) c low (ap (waits_for t b c) (get_or-set_same left c None None low)) (search rules),
       length-set left c None,
     )
 
 -- Pairs that are sorted have first parts that do not fall.
 pub firsts_rise : (xs : List (ℕ × ℕ)) → IsSorted (λ (x y : ℕ × ℕ). ordering_then (nat_cmp x.0 y.0) (nat_cmp x.1 y.1)) xs
     → IsNonDecreasingBy (λ (x : ℕ × ℕ). x.0) xs
-firsts_rise xs sorted = IsNonDecreasingBy-from_all_adjacent (λ (x : ℕ × ℕ). x.0) xs
-    (λ k d l. at (get_or xs (k + 1) d).0 (get_or xs (k + 1) d).1 (get_or xs k d).0 (get_or xs k d).1
-    (sorted k d (omega arith) l) (cases_lt (get_or xs (k + 1) d).0 (get_or xs k d).0))
+firsts_rise xs sorted = IsNonDecreasingBy-from_all_adjacent (λ (x : ℕ × ℕ). x.0) xs (search rules)
   where
     at : (a b c d : ℕ) → is_lt (ordering_then (nat_cmp a c) (nat_cmp b d)) ≡ false → (a < c) ⊎ (c ≤ a) → c ≤ a
     at a b c d off (inr le) = le
@@ -240,8 +226,7 @@ pub sets_moved : {t : ForestTables} {bound : ℕ} {xs : List (ℕ × ℕ)} (ys :
 sets_moved {t} {bound} {xs} ys moved has = record {
   each = All-permutation (IsSized t bound) xs ys moved has.each;
   all = λ b high low live. Contains-permutation xs ys (get_or t.rank b 0, b) moved (has.all b high low live);
-  counts = λ f. count_is (λ (set : ℕ × ℕ). f set.1) ys ∙ (sum_by-IsPermutation (λ (set : ℕ × ℕ). f set.1) xs ys moved
-      ∙ (sym (count_is (λ (set : ℕ × ℕ). f set.1) xs) ∙ has.counts f));
+  counts = search (rules, count_is, sum_by-IsPermutation);
 }
 
 -- What waits after a set was matched has fewer vertices, so that it is one of those before.
@@ -267,23 +252,13 @@ wait_begins left many order all size lawful c v is =
 pub sets_more : {t : ForestTables} {b : ℕ} {xs : List (ℕ × ℕ)} → length t.hand ≤ b → get_or t.parts b 0 ≢ 0
     → HasSets t b xs → HasSets t (b + 1) (xs ++ (get_or t.rank b 0, b) ∷ [])
 sets_more {t} {b} {xs} high live has = record {
-  each = All-push (IsSized t (b + 1)) xs (get_or t.rank b 0, b) (λ k d l. (let was = has.each k d l in
-      record { rank = was.rank; high = was.high; low = omega arith; live = was.live }))
-      (record { rank = refl; high = high; low = omega arith; live = live });
+  each = All-push (IsSized t (b + 1)) xs (get_or t.rank b 0, b) (search rules) (search rules);
   all = λ c hc lc used. elim (cases_eq c b) [
     | inl e ↦ rw e (Contains-push xs (get_or t.rank b 0, b))
     | inr ne ↦ Contains-append_left xs ((get_or t.rank b 0, b) ∷ []) (get_or t.rank c 0, c)
         (has.all c hc (omega (arith, lc, ne)) used)
   ];
-  counts = λ f. (
-      let last : count (λ (set : ℕ × ℕ). f set.1) (xs ++ (get_or t.rank b 0, b) ∷ []) ≡ count (λ (set : ℕ × ℕ). f set.1)
-      xs + (f b + 0) = count_append (λ (set : ℕ × ℕ). f set.1) xs _ in
-      let here : live_at (length t.hand) (λ k. get_or t.parts k 0) b * f b ≡ 1 * f b = ap (λ (m : ℕ). m * f b)
-      (cond-false _ _ _ (le-ltb b (length t.hand) high) ∙ cond-false _ _ _ (ne_eqb (get_or t.parts b 0) 0 live)) in
-      let up : count_below (λ c. live_at (length t.hand) (λ k. get_or t.parts k 0) c * f c) (b + 1) ≡ count_below
-      (λ c. live_at (length t.hand) (λ k. get_or t.parts k 0) c * f c) (suc b) = (let o : b + 1 ≡ suc b = omega arith in
-      ap (count_below (λ c. live_at (length t.hand) (λ k. get_or t.parts k 0) c * f c)) o) in
-      omega (arith, has.counts f));
+  counts = search (rules, count_append);
 }
 
 -- No set below the vertices' number is one.
@@ -291,8 +266,6 @@ pub sets_none : (t : ForestTables) (xs : List (ℕ × ℕ)) → length xs ≡ 0 
 sets_none t [] none = record {
   each = λ k d l. absurd (omega arith);
   all = λ b high low live. absurd (omega arith);
-  counts = λ f. sym (count_below_none (λ b. live_at (length t.hand) (λ k. get_or t.parts k 0) b * f b) _ (λ b l.
-      (let z : live_at (length t.hand) (λ k. get_or t.parts k 0) b * f b ≡ 0 * f b =
-      ap (λ (m : ℕ). m * f b) (cond-true _ _ _ (lt-ltb b (length t.hand) l)) in omega arith)));
+  counts = search (rules, count_below_none);
 }
 sets_none t (x ∷ xs) none = absurd (omega arith)

@@ -29,8 +29,7 @@ pub ring_one : (next f : ℕ → ℕ) (from k j : ℕ) → j < k → f (walk nex
 ring_one next f from zero j l one others = absurd (omega arith)
 ring_one next f from (suc k) j l one others =
     let more = λ (lj : j < k). ring_one next f from k j lj one (λ i li ne. others i (omega arith) ne) in
-    let rest = λ (e : j ≡ k). ring_none next f from k (λ i li. others i (omega arith) (λ s. absurd (omega arith))) in
-    grind (arith, one, others k)
+    search (rules, ring_none)
 
 -- From a part p to its set q: what is in p is in q and in no other part, what is not in q is in none; and the rest is q
 -- itself, in which v is, or is in one other part, and v is not in it.
@@ -81,19 +80,10 @@ module _ {n : ℕ} {up rank : ℕ → ℕ} (rising : IsRising n up rank) where
   -- Of two blossoms on one way one lies within the other.
   pub in_line : (w : ℕ) {a b : ℕ} (i j : ℕ) → walk up w i ≡ a → walk up w j ≡ b → ((m : ℕ) × (walk up a m ≡ b))
       ⊎ ((m : ℕ) × (walk up b m ≡ a))
-  in_line w {a} {b} i j ea eb =
-      elim (cases_lt i j) [
-        | inl l ↦ inl (
-          j - i,
-          ap (λ x. walk up x (j - i)) (sym ea) ∙
-              (sym (walk_sum up w i (j - i)) ∙ ((let s : i + (j - i) ≡ j = omega arith in ap (walk up w) s) ∙ eb)),
-        )
-        | inr h ↦ inr (
-          i - j,
-          ap (λ x. walk up x (i - j)) (sym eb) ∙
-              (sym (walk_sum up w j (i - j)) ∙ ((let s : j + (i - j) ≡ i = omega arith in ap (walk up w) s) ∙ ea)),
-        )
-      ]
+  in_line w {a} {b} i j ea eb = elim (cases_lt i j) [
+    | inl l ↦ inl (j - i, ap (λ x. walk up x (j - i)) (sym ea) ∙ (sym (walk_sum up w i (j - i)) ∙ (search rules)))
+    | inr h ↦ inr (i - j, ap (λ x. walk up x (i - j)) (sym eb) ∙ (sym (walk_sum up w j (i - j)) ∙ (search rules)))
+  ]
 
   -- Two parts of a set are not within each other.
   pub parts_apart : (x : ℕ) {y q : ℕ} (m : ℕ) → up x ≡ q → up y ≡ q → y ≢ q → x ≢ y → walk up x m ≡ y → ⊥
@@ -126,22 +116,15 @@ module _ {n : ℕ} {up rank : ℕ → ℕ} (rising : IsRising n up rank) where
     -- A blossom around one end that is not within its part is around the other end.
     around_other : (u v x y b : ℕ) → up x ≡ q → up y ≡ q → rank x ≤ n → in_it u x ≡ true → in_it v y ≡ true
         → in_it b x ≡ false → rank b ≤ n → in_it u b ≡ true → in_it v b ≡ true
-    around_other u v x y b ex ey low_x hu hv off low on =
-        let wx = where_in u x hu in
-        let wb = where_in u b on in
-        let wy = where_in v y hv in
-        elim (in_line u wb.0 wx.0 wb.1 wx.1)
-        [ inl m ↦ absurd (true_false (in_where b m.0 low_x m.1) off) | inr m ↦ beyond wy m.0 m.1 ]
+    around_other u v x y b ex ey low_x hu hv off low on = search (rules, where_in, in_line, in_where, beyond)
       where
         beyond : (j : ℕ) × (walk up v j ≡ y) → (m : ℕ) → walk up x m ≡ b → in_it v b ≡ true
         beyond wy zero e = absurd (true_false (in_where b 0 low_x (sym e)) off)
-        beyond wy (suc m) e = in_where v _ low (walk_sum up v wy.0 (suc m) ∙ (ap (λ z. walk up z (suc m))
-            wy.1 ∙ (walk_front up y m ∙ (ap (λ z. walk up z m) (ey ∙ sym ex) ∙ (sym (walk_front up x m) ∙ e)))))
+        beyond wy (suc m) e = in_where v _ low (walk_sum up v wy.0 (suc m) ∙ (search (rules, walk_front)))
 
     pub pair_law : (b : ℕ) → (in_it u b ≡ true → rank b ≤ n) → (in_it v b ≡ true → rank b ≤ n)
-        → bool_number (cond (in_it u b) (not (in_it v b)) (in_it v b))
-        + (cond (in_it b x) (cond (in_it u b) 0 1) 0 + cond (in_it b y) (cond (in_it v b) 0 1) 0)
-        ≡ bool_number (in_it b x) + bool_number (in_it b y)
+        → bool_number (cond (in_it u b) (not (in_it v b)) (in_it v b)) + (cond (in_it b x) (cond (in_it u b) 0 1) 0
+        + cond (in_it b y) (cond (in_it v b) 0 1) 0) ≡ bool_number (in_it b x) + bool_number (in_it b y)
     pair_law b low_u low_v = by_pair _ _ _ _ (λ on. (
       false_from_ne_true (in_it b y) (λ o. none_in_both b x y ex ey nx ny ne on o),
       false_from_ne_true (in_it v b) (λ o. none_in_both v x y ex ey nx ny ne (through v b x low_x o on) hv),
@@ -180,14 +163,13 @@ module _ {n : ℕ} {up rank : ℕ → ℕ} (rising : IsRising n up rank) where
         (λ k l. ap bool_number (false_from_ne_true (in_it b (nth k)) (off k l)))
 
     apart : (i k : ℕ) → i < many - 1 → k < many - 1 → i ≢ k → nth i ≢ nth k
-    apart i k li lk ne same =
-        grind (
-          arith,
-          circle.distinct (suc i) (suc k),
-          circle.distinct (suc k) (suc i),
-          walk_front after p i,
-          walk_front after p k,
-        )
+    apart i k li lk ne same = grind (
+      arith,
+      circle.distinct (suc i) (suc k),
+      circle.distinct (suc k) (suc i),
+      walk_front after p i,
+      walk_front after p k,
+    )
 
     -- What lies in a part after p lies in no other.
     one_after : (b : ℕ) {r : ℕ} → up r ≡ q → r ≢ q → in_it b r ≡ true → r ≢ p → (k : ℕ) → k < many → walk after p k ≡ r
@@ -195,10 +177,9 @@ module _ {n : ℕ} {up rank : ℕ → ℕ} (rising : IsRising n up rank) where
     one_after b er nr on np zero l e = absurd (np (sym e))
     one_after b {r} er nr on np (suc k) l e =
         let here : nth k ≡ r = sym (walk_front after p k) ∙ e in
-        ring_one after (λ x. bool_number (in_it b x)) (after p) (many - 1) k (omega (arith, l))
-        (ap (λ x. bool_number (in_it b x)) here ∙ ap bool_number on) (λ i li ni. ap bool_number
-        (false_from_ne_true (in_it b (nth i)) (λ o. none_in_both b (nth i) r (at_part i).0 er (at_part i).1 nr
-        (λ same. apart i k li (omega (arith, l)) ni (same ∙ sym here)) o on)))
+        ring_one _ (λ x. bool_number (in_it b x)) _ _ k (omega (arith, l)) (ap (λ x. bool_number (in_it b x)) here ∙ ap
+        bool_number on) (λ i li ni. ap bool_number (false_from_ne_true _ (λ o. none_in_both b _ r (at_part i).0 er
+        (at_part i).1 nr (λ same. apart i k li (omega (arith, l)) ni (same ∙ sym here)) o on)))
 
     -- What is in the set and not in p, but is not the set, is in one part after it, and v is not in it.
     around : (b : ℕ) → (r : ℕ) × (up r ≡ q) × (r ≢ q) × (i : ℕ) × (walk up b i ≡ r) → in_it b p ≡ false
@@ -219,16 +200,10 @@ module _ {n : ℕ} {up rank : ℕ → ℕ} (rising : IsRising n up rank) where
       in_set b p p_part.0 on,
       none_after b (λ k l. none_in_both b p (nth k) p_part.0 (at_part k).0 p_part.1 (at_part k).1
           (λ e. circle.distinct 0 (suc k) (omega arith) (omega (arith, l)) (e ∙ sym (walk_front after p k))) on),
-    )) (λ free. none_after b (λ k l o. true_false (in_set b (nth k) (at_part k).0 o) free))
-        (λ off on. elim (cases_eq b q) [
-          | inl e ↦ inl (
-            none_after b (λ k l o. (let w = where_in q (nth k) (rw e at o) in
-                let less = rises (nth k) (λ s. (at_part k).1 (sym s ∙ (at_part k).0)) in
-                omega (arith, rank_walk q w.0, ap rank w.1, ap rank (at_part k).0))),
-            ap (in_it v) e ∙ in_set v p p_part.0 hv,
-          )
-          | inr ne ↦ inr (around b (in_part b (where_in b q on).0 (where_in b q on).1 ne) off on)
-        ])
+    )) (search (rules, none_after, in_set, at_part)) (λ off on. elim (cases_eq b q) [
+      | inl e ↦ search (rules, none_after, where_in, at_part, rank_walk, in_set)
+      | inr ne ↦ inr (around b (in_part b (where_in b q on).0 (where_in b q on).1 ne) off on)
+    ])
 
 -- What tied tables say of how blossoms lie in each other, and the two parts that a joint joins.
 
@@ -282,8 +257,7 @@ module _ {t : ForestTables} (known : IsLaminar t) where
 
         part_used : IsInUse (length t.hand) t.parts (get_or t.head x 0)
         part_used =
-            let inner : (forest_of t).nest.up (get_or t.head x 0) ≢ get_or t.head x 0 = λ e. absurd
-            (omega (arith, ring.lower 0, ap (λ y. get_or t.rank y 0) (sym (ring.inside 0) ∙ e))) in
+            let inner : (forest_of t).nest.up (get_or t.head x 0) ≢ get_or t.head x 0 = search rules in
             let joint = valid.valid.nested.joints (get_or t.head x 0) inner in
             elim (cases_lt (get_or t.head x 0) (length t.hand)) [
               | inl l ↦ inl l
@@ -359,17 +333,16 @@ module _ {t : ForestTables} (known : IsLaminar t) where
         low_x = x_low;
         low_y = y_low;
         other = differ;
-        apart = λ e. none_in_both (rising known) (near_at t d) x y
+        apart = λ e. none_in_both (rising known) _ x y
             refl next_around (λ s. inner (sym s)) next_other differ near_ok.1 (rw e far_ok.1);
         near_low = near_ok.0;
         far_low = far_ok.0;
         near_held = near_ok.1;
         far_held = far_ok.1;
-        live_x = used x (near_at t d) near_ok.0 near_ok.1;
-        live_y = used y (far_at t d) far_ok.0 far_ok.1;
-        law = λ b l. pair_law (rising known) x y (near_at t d)
-            (far_at t d) refl next_around (λ s. inner (sym s)) next_other differ near_ok.1 far_ok.1
-            (known.passed x (near_at t d) near_ok.0 near_ok.1) (known.passed y (far_at t d) far_ok.0 far_ok.1) b
-            (λ on. known.passed b (near_at t d) near_ok.0 on) (λ on. known.passed b (far_at t d) far_ok.0 on);
+        live_x = used x _ near_ok.0 near_ok.1;
+        live_y = used y _ far_ok.0 far_ok.1;
+        law = λ b l. pair_law (rising known) x y _ _ refl next_around (λ s. inner (sym s)) next_other differ near_ok.1
+            far_ok.1 (known.passed x (near_at t d) near_ok.0 near_ok.1) (known.passed y (far_at t d) far_ok.0 far_ok.1)
+            b (λ on. known.passed b (near_at t d) near_ok.0 on) (λ on. known.passed b (far_at t d) far_ok.0 on);
         tight = λ h valid'. (valid'.valid.nested.joints x inner).tight;
       }

@@ -1,5 +1,5 @@
 -- Each step lessens what is left of a search.
-use Rattle.std.proofs.Common.{rules, ◌≡◌, ◌≢◌, ℕ, ◌+◌, ◌*◌, ◌<◌, ◌≤◌, true, List, length, mul-le-mul_right, get_or}
+use Rattle.std.proofs.Common.{rules, ◌≡◌, ◌≢◌, ℕ, ◌+◌, ◌<◌, ◌≤◌, true, List, length, mul-le-mul_right, get_or}
 use Rattle.std.proofs.Common.{Option, Some, refl, sym, ◌∙◌, ap, inl, inr, arith}
 use Rattle.std.proofs.lemmas.Bool.{cases_eq, cases_Bool, cond-true, cond-false, eq-eqb, ne_eqb}
 use Rattle.{std.proofs.Math.ListN.set, std.proofs.lemmas.List.length-set, std.proofs.lemmas.List.get_or-set_same}
@@ -25,10 +25,6 @@ sets_low : (n : ℕ) (f : Forest) → sets_of n f ≤ f.size
 sets_low n f =
     let below = count_below_le (live_at n f.nest.parts) (λ b. 1) f.size (λ b l. grind arith) in
     omega (arith, count_below_ones f.size)
-
--- So many times as much.
-times_more : (w : ℕ) {a b : ℕ} → a < b → a * w + w ≤ b * w
-times_more w l = omega (arith, mul-le-mul_right w l)
 
 fewer_vertices : (n : ℕ) (f new : Forest) → new.size ≡ f.size → vertices_left n new < vertices_left n f
     → steps_left n new < steps_left n f
@@ -56,12 +52,10 @@ module _ (g : WeightedGraph) (is : IsGraph g) (f : Forest) (root : Option ℕ) (
   pub grown_fewer : steps_left g.n (grown (darts_of g) f d m) < steps_left g.n f
   grown_fewer =
       let pair = valid.matched inn m mate in
-      let low = far_low (darts_of g) (are_darts is) m pair.tight.low in
-      let fewer = count_below_lt (λ w. not_outer (set_at (set_at f.label inn Inner) outer Outer (f.out w)))
-      (λ w. not_outer (f.label (f.out w))) g.n (far (darts_of g) m) low
-      (λ w l. fewer_at f.label (f.out w) outer off)
-      (rw (eq-eqb outer outer refl) (omega (arith, ap not_outer (valid.outside inn m off mate)))) in
-      fewer_vertices g.n f (grown (darts_of g) f d m) refl fewer
+      let low = far_low _ (are_darts is) m pair.tight.low in
+      let fewer = count_below_lt _ _ _ _ low (λ w l. fewer_at f.label _ _ off) (rw (eq-eqb outer outer refl)
+      (omega (arith, ap not_outer (valid.outside inn m off mate)))) in
+      fewer_vertices _ f (grown (darts_of g) f d m) refl fewer
 
 module _ (g : WeightedGraph) (is : IsGraph g) (f new : Forest) (root after : Option ℕ) (d : ℕ)
     (valid : IsValid (darts_of g) f root) (s : IsShrinking (darts_of g) f new root after d) where
@@ -88,12 +82,11 @@ module _ (g : WeightedGraph) (is : IsGraph g) (f new : Forest) (root after : Opt
       let p = inner_on_cycle in
       let w = valid.outermost.named p.0 (inner_named p.2) in
       let one = ap (λ b. not_outer (f.label b)) w.2 ∙ ap not_outer p.2 in
-      fewer_vertices g.n f new s.shrunk.size (count_below_lt (λ v. not_outer (new.label (new.out v)))
-      (λ v. not_outer (f.label (f.out v))) g.n w.0 w.1 (λ v l. elim (cases_Bool (s.inside (f.out v))) [
+      fewer_vertices _ f new s.shrunk.size (count_below_lt _ _ _ _ w.1 (λ v l. elim (cases_Bool (s.inside (f.out v))) [
         | inl on ↦ omega (arith, now_outer v l on)
-        | inr off ↦ (let label = shrunk_label is valid s (f.out v) (s.unused.no_out v l) off in
+        | inr off ↦ (let label = shrunk_label is valid s _ (s.unused.no_out v l) off in
             rw (shrunk_off is valid s v l off, label) (omega arith))
-      ]) (omega (arith, now_outer w.0 w.1 (ap s.inside w.2 ∙ p.1))))
+      ]) (omega (arith, now_outer _ w.1 (ap s.inside w.2 ∙ p.1))))
 
 module _ {g : WeightedGraph} (is : IsGraph g) {f new : Forest} {r : ℕ} {o : Opening}
     (valid : IsValid (darts_of g) f (Some r)) (opening : IsOpening (darts_of g) f o)
@@ -128,7 +121,7 @@ stale_low g f risen keys n =
 pub fewer_turns : (g : WeightedGraph) (f new : Forest) (risen after : ℕ) (old keys : List ℕ) → length keys ≡ length old
     → steps_left g.n new < steps_left g.n f → turns_left g new after keys < turns_left g f risen old
 fewer_turns g f new risen after old keys size l =
-    rw size (omega (arith, times_more (length old + 1) l, stale_low g new after keys (length old)))
+    rw size (omega (arith, mul-le-mul_right (length old + 1) l, stale_low g new after keys (length old)))
 
 pub fewer_stale : (g : WeightedGraph) (f : Forest) (risen leaf : ℕ) (keys new : List ℕ) → leaf < length keys
     → get_or keys leaf 0 ≢ true_key g f risen leaf → new ≡ set keys leaf (true_key g f risen leaf)

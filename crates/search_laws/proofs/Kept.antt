@@ -1,17 +1,16 @@
 -- Keys stay low through each step, where the edges at new outer blossoms and the new inner sets get theirs anew.
 use Rattle.std.proofs.Common.{rules, ◌≡◌, ◌≢◌, ℕ, ◌*◌, ◌<◌, ◌≤◌, Bool, true, false, cond, eqb, List, length, get_or}
-use Rattle.std.proofs.Common.{Option, Some, None, ℤ, pos, ◌-ℤ◌, ◌*ℤ◌, ◌⊎◌, refl, sym, ◌∙◌, ap, inl, inr, arith}
+use Rattle.std.proofs.Common.{Option, Some, None, pos, ◌-ℤ◌, ◌*ℤ◌, ◌⊎◌, refl, sym, ◌∙◌, ap, inl, inr, arith}
 use Rattle.std.proofs.lemmas.Bool.{cases_eq, cases_lt, cases_Bool, eq-eqb, ne_eqb, eqb-true}
-use Rattle.{std.specs.Int.RustNames.unsigned_abs, search_laws.proofs.Keys.at_edge, search_laws.proofs.Keys.at_set}
 use Rattle.def_matching.specs.Matching.{WeightedGraph, IsGraph, edge_at}
 use Rattle.def_forest.specs.declared.kinds.Label.TheVariants.{Outer, Inner, Outside}
-use Rattle.def_forest.specs.{Darts.darts_of, Darts.far, Forests.Forest, Forests.set_at, Opened.Opening}
-use Rattle.def_forest.specs.{Opened.IsOpening, Opened.IsOpened, Shrunk.IsShrinking, Steps.grown, Steps.rooted}
-use Rattle.def_forest.specs.{Tables.slack_of, Valid.IsValid, declared.kinds.Label.Label}
+use Rattle.def_forest.specs.{Darts.darts_of, Darts.far, Forests.Forest, Forests.set_at, Shrunk.IsShrinking, Steps.grown}
+use Rattle.def_forest.specs.{Steps.rooted, Tables.slack_of, Valid.IsValid, declared.kinds.Label.Label}
+use Rattle.def_forest.specs.Opened.{Opening, IsOpening, IsOpened}
 use Rattle.forest_laws.proofs.{Bounds.are_darts, Levels.tree_cases, Grows.set_here, Grows.set_there, Shifts.same_load}
-use Rattle.forest_laws.proofs.{Expands.Expansion, Shrinks.Shrink}
-use Rattle.search_laws.specs.Keys.{no_key, edge_key_by, set_key_by, set_of, leaf_of, true_key, AreLow, IsMended}
-use Rattle.search_laws.specs.Keys.{AreRightAt}
+use Rattle.search_laws.specs.Keys.{no_key, edge_key_by, set_of, leaf_of, true_key, AreLow, IsMended}
+use Rattle.{std.specs.Int.RustNames.unsigned_abs, search_laws.proofs.Keys.at_edge, search_laws.proofs.Keys.at_set}
+use Rattle.{forest_laws.proofs.Expands.Expansion, forest_laws.proofs.Shrinks.Shrink, search_laws.specs.Keys.AreRightAt}
 use Rattle.forest_laws.proofs.Shrinks as shrinks
 use Rattle.forest_laws.proofs.Expands as expands
 
@@ -22,11 +21,6 @@ IsQuiet f new w = (new.label (new.out w) ≡ f.label (f.out w)) ⊎ (new.label (
 quiet_key : {a b c d : Label} (s t : Bool) (slack risen : ℕ) → (c ≡ a) ⊎ (c ≡ Inner) → (d ≡ b) ⊎ (d ≡ Inner)
     → (a ≡ Outer → s ≡ true → t ≡ true) → edge_key_by a b s slack risen ≤ edge_key_by c d t slack risen
 quiet_key s t slack risen x y on = grind arith
-
--- The key of a set stays low where an inner set was one of the same weight, or has its key.
-set_key_stays : (l l2 : Label) (w w2 : ℤ) (risen key : ℕ) → key ≤ set_key_by l w risen
-    → (l2 ≡ Inner → ((l ≡ Inner) × (w2 ≡ w)) ⊎ (key ≡ set_key_by l2 w2 risen)) → key ≤ set_key_by l2 w2 risen
-set_key_stays l l2 w w2 risen key low inner = grind arith
 
 inner_cases : (l : Label) → (l ≡ Inner) ⊎ (l ≢ Inner)
 inner_cases Inner = inl refl
@@ -65,11 +59,7 @@ stay_low {g} is {f} {new} {risen} {old} {keys} low mended turned k l = elim (men
         ]
         | inr he ↦ (let b = set_of g k in
             let leaf : leaf_of g b ≡ k = omega arith in
-            rw (at_set g new risen k he) (set_key_stays (f.label b) (new.label b) (f.weight b) (new.weight b) risen
-            (get_or keys k 0) (rw (at_set g f risen k he) at was) (λ inner. elim (turned.sets b (omega arith) inner) [
-              | inl w ↦ inl w
-              | inr right ↦ search rules
-            ])))
+            rw (at_set g new risen k he) (search rules))
       ])
 ]
   where
@@ -79,9 +69,8 @@ stay_low {g} is {f} {new} {risen} {old} {keys} low mended turned k l = elim (men
         let u = (edge_at g k).u in
         let v = (edge_at g k).v in
         rw (at_edge g f risen k le, at_edge g new risen k le, turned.slacks k le) (quiet_key (eqb (f.out u) (f.out v))
-        (eqb (new.out u) (new.out v)) (unsigned_abs (slack_of g f k)) risen qu qv
-        (λ outer on. eq-eqb (new.out u) (new.out v) (turned.same u v (is.left k le) (is.right k le) outer
-        (eqb-true (f.out u) (f.out v) on))))
+        (eqb (new.out u) (new.out v)) (unsigned_abs (slack_of g f k)) risen qu qv (λ outer on. eq-eqb (new.out u)
+        (new.out v) (turned.same u v (is.left k le) (is.right k le) outer (eqb-true (f.out u) (f.out v) on))))
 
 -- No key is above the one where nothing happens.
 pub true_key_low : (g : WeightedGraph) (f : Forest) (risen k : ℕ) → true_key g f risen k ≤ no_key
@@ -186,14 +175,13 @@ module _ {g : WeightedGraph} (is : IsGraph g) {f new : Forest} {root after : Opt
   pub shrunk_turned : (risen : ℕ) (keys : List ℕ) → ((p : ℕ) → s.inside p ≡ true → f.label p ≡ Inner
       → AreRightAt g new risen keys (new.holds p)) → IsTurned g f new risen keys
   shrunk_turned risen keys right = record {
-    slacks = λ e l. ap (λ x. (pos 2 *ℤ (edge_at g e).cost) -ℤ x)
-        (same_load (are_darts is) (shrinks.changes shrink) (edge_at g e).u (edge_at g e).v (is.left e l)
-        (is.right e l));
+    slacks = λ e l. ap (λ x. (pos 2 *ℤ (edge_at g e).cost) -ℤ x) (same_load (are_darts is) (shrinks.changes shrink)
+        (edge_at g e).u (edge_at g e).v (is.left e l) (is.right e l));
     ends = λ w l. elim (cases_Bool (s.inside (f.out w))) [
       | inl on ↦ elim (on_cycle (f.out w) on) [
         | inl outer ↦ inl (inl (ap new.label (shrunk_on w l on) ∙ shrunk_set ∙ sym outer))
         | inr inner ↦ (let held = s.shrunk.holds_old (f.out w) w (s.unused.no_out w l) l ∙ held_out g valid w l in
-            inr (right_at g new risen keys (new.holds (f.out w)) (right (f.out w) on inner) held))
+            search rules)
       ]
       | inr off ↦ inl (inl (ap new.label (shrunk_off w l off) ∙ shrunk_label (f.out w) (s.unused.no_out w l) off))
     ];
@@ -223,14 +211,12 @@ module _ {g : WeightedGraph} (is : IsGraph g) {f new : Forest} {r : ℕ} {o : Op
     | inr (inr ne) ↦ inr (sym (opened.others x ne).label ∙ inner)
   ]
 
-  pub opened_turned : (risen : ℕ) (keys : List ℕ) → ((j : ℕ) → j ≤ 2 * o.half → new.label (o.q j) ≢ Inner
-      → AreRightAt g new risen keys (new.holds (o.q j)))
-      → ((j : ℕ) → j ≤ 2 * o.half → new.label (o.q j) ≡ Inner → g.n ≤ o.q j → get_or keys (leaf_of g (o.q j)) 0
-      ≡ true_key g new risen (leaf_of g (o.q j))) → IsTurned g f new risen keys
+  pub opened_turned : (risen : ℕ) (keys : List ℕ) → ((j : ℕ) → j ≤ 2 * o.half → new.label (o.q j) ≢ Inner → AreRightAt g
+      new risen keys (new.holds (o.q j))) → ((j : ℕ) → j ≤ 2 * o.half → new.label (o.q j) ≡ Inner → g.n ≤ o.q j
+      → get_or keys (leaf_of g (o.q j)) 0 ≡ true_key g new risen (leaf_of g (o.q j))) → IsTurned g f new risen keys
   opened_turned risen keys right leaves = record {
-    slacks = λ e l. ap (λ x. (pos 2 *ℤ (edge_at g e).cost) -ℤ x)
-        (same_load (are_darts is) (expands.changes expansion) (edge_at g e).u (edge_at g e).v (is.left e l)
-        (is.right e l));
+    slacks = λ e l. ap (λ x. (pos 2 *ℤ (edge_at g e).cost) -ℤ x) (same_load (are_darts is) (expands.changes expansion)
+        (edge_at g e).u (edge_at g e).v (is.left e l) (is.right e l));
     ends = λ w l. elim (cases_eq (f.out w) o.b) [
       | inl e ↦ (let p = opening.part_of w l e in
           elim (inner_cases (new.label (o.q p.0))) [
@@ -239,7 +225,7 @@ module _ {g : WeightedGraph} (is : IsGraph g) {f new : Forest} {r : ℕ} {o : Op
                 ∙ eq-eqb (o.part w) (o.q p.0) (sym p.2) in
                 inr (right_at g new risen keys (new.holds (o.q p.0)) (right p.0 p.1 ne) held))
           ])
-      | inr ne ↦ inl (inl (ap new.label (opened_old w l ne) ∙ opened_label w l ne))
+      | inr ne ↦ search (rules, opened_old, opened_label)
     ];
     same = λ u v lu lv outer e. (let not_b : f.out u ≢ o.b = λ x. cc opening.label in
         opened_old u lu not_b ∙ e ∙ sym (opened_old v lv (λ x. not_b (e ∙ x))));

@@ -1,5 +1,5 @@
 -- Keys do not change with a shift, and what they say is lawful.
-use Rattle.std.proofs.Common.{rules, ◌≡◌, ℕ, ◌+◌, ◌-◌, ◌*◌, ◌%◌, ◌<◌, ◌≤◌, Bool, true, false, eqb, length, ℤ, pos, ◌+ℤ◌}
+use Rattle.std.proofs.Common.{rules, ◌≡◌, ℕ, ◌+◌, ◌-◌, ◌*◌, ◌%◌, ◌<◌, ◌≤◌, Bool, true, false, length, ℤ, pos, ◌+ℤ◌}
 use Rattle.std.proofs.Common.{◌-ℤ◌, ◌≤ℤ◌, ap, inl, inr, arith}
 use Rattle.std.proofs.lemmas.Bool.{cases_eq, cases_lt, cond-true, cond-false, eq-eqb, eqb-true, lt-ltb, le-ltb}
 use Rattle.std.{proofs.lemmas.Int.ints, specs.Int.RustNames.unsigned_abs}
@@ -40,9 +40,8 @@ darts_low g f slacks d l =
 -- Where the dual may rise by x, an edge's slack stays at least 0 and its key does not change.
 edge_shift : (a b : Label) (same : Bool) (slack later : ℤ) (risen x : ℕ) → pos 0 ≤ℤ slack
     → (same ≡ true → (later ≡ slack) × (a ≡ b))
-    → (same ≡ false → later ≡ slack -ℤ (weight_change a (pos x) +ℤ weight_change b (pos x)))
-    → risen + x ≤ edge_key_by a b same (unsigned_abs slack) risen
-    → (pos 0 ≤ℤ later) × (edge_key_by a b same (unsigned_abs later) (risen + x)
+    → (same ≡ false → later ≡ slack -ℤ (weight_change a (pos x) +ℤ weight_change b (pos x))) → risen + x ≤ edge_key_by a
+    b same (unsigned_abs slack) risen → (pos 0 ≤ℤ later) × (edge_key_by a b same (unsigned_abs later) (risen + x)
     ≡ edge_key_by a b same (unsigned_abs slack) risen)
 edge_shift a b same slack later risen x high within apart room = grind (arith, ints)
 
@@ -60,13 +59,11 @@ module _ (g : WeightedGraph) (is : IsGraph g) (f : Forest) (outermost : AreOuter
   edge_shifted e le room =
       let u = (edge_at g e).u in
       let v = (edge_at g e).v in
-      edge_shift (f.label (f.out u)) (f.label (f.out v)) (eqb (f.out u) (f.out v)) (slack_of g f e)
-      (slack_of g (shifted f (pos x)) e) risen x (slack_high g e feasible le)
-      (λ on. (let same = eqb-true (f.out u) (f.out v) on in
-      (cc (load_within outermost (pos x) u v (is.left e le) (is.right e le) same), ap f.label same)))
+      edge_shift _ _ _ _ _ _ x (slack_high g e feasible le) (λ on. (let same = eqb-true (f.out u) (f.out v) on in
+      (cc (load_within outermost _ u v (is.left e le) (is.right e le) same), ap f.label same)))
       (λ off. (let apart = load_apart outermost (pos x) u v (is.left e le) (is.right e le)
       (λ same. true_false (eq-eqb (f.out u) (f.out v) same) off) in omega (arith, ints)))
-      (rw (at_edge g f risen e le) at room)
+      (rw (at_edge g f _ e le) at room)
 
   module _ (most : ℕ) (sets : length g.edges + (f.size - g.n) ≤ most) (room : (k : ℕ) → k < most
       → risen + x ≤ true_key g f risen k) where

@@ -6,10 +6,10 @@ use Rattle.def_math.specs.{Increasing.IsIncreasing, Sums.total, Sums.total_below
 use Rattle.qm_dual.proofs.{Gathered.ends_once, Gathered.total_below_small, Weak.chosen_below}
 use Rattle.def_matching.specs.Matching.{WeightedGraph, IsGraph, IsCheap, IsPerfect, edge_at, matching_cost}
 use Rattle.def_matching.specs.{declared.limits.TheConstants.MAX_PRODUCT, declared.weighted.WEdge.WEdge}
-use Rattle.def_forest.specs.{Darts.darts_of, Forests.Forest, Forests.dual_sum_of, Steps.weight_change, Steps.shifted}
-use Rattle.def_forest.specs.{Valid.IsFeasible, Valid.IsValid, declared.kinds.Label.Label}
+use Rattle.def_forest.specs.{Darts.darts_of, Forests.Forest, Forests.dual_sum_of, Steps.shifted}
+use Rattle.def_forest.specs.{Valid.IsFeasible, Valid.IsValid}
 use Rattle.forest_laws.proofs.{Bounds.sum_bounds, Bounds.are_darts, Shifts.shift_valid, Shifts.sum_rises}
-use Rattle.search_laws.{specs.Keys.no_key, specs.Keys.true_key, specs.Searches.IsInRange, specs.Searches.first_limit}
+use Rattle.search_laws.{specs.Keys.true_key, specs.Searches.IsInRange, specs.Searches.first_limit}
 use Rattle.search_laws.{specs.Searches.risen_limit, proofs.Keys.lawful}
 
 -- The greatest of some numbers, where the product of each with another is small.
@@ -18,10 +18,7 @@ pub greatest_of : (f : ℕ → ℕ) (n limit k : ℕ) → ((i : ℕ) → i < k �
 greatest_of f n limit zero few = (0, (λ i l. absurd (omega (arith, l))), omega arith)
 greatest_of f n limit (suc k) few = let w = greatest_of f n limit k (λ i l. few i (omega arith)) in
     let each : (m : ℕ) → w.0 ≤ m → f k ≤ m → (i : ℕ) → i < suc k → f i ≤ m = λ m lw lk i l. grind (arith, w.1 i) in
-    elim (cases_lt (f k) w.0) [
-      | inl h ↦ (w.0, each w.0 (omega arith) (omega arith), w.2)
-      | inr h ↦ (f k, each (f k) (omega arith) (omega arith), few k (omega arith))
-    ]
+    elim (cases_lt (f k) w.0) [ inl h ↦ (w.0, each w.0 (omega arith) (omega arith), w.2) | inr h ↦ search rules ]
 
 -- A number that bounds all costs.
 pub greatest : (g : WeightedGraph) → IsCheap g → (most : ℕ)
@@ -31,9 +28,7 @@ greatest g cheap = greatest_of (λ e. unsigned_abs (edge_at g e).cost) g.n MAX_P
 -- A sum of which only the first terms are not 0.
 first_terms : (f : ℕ → ℤ) (n k : ℕ) → ((b : ℕ) → n ≤ b → f b ≡ pos 0) → total_below f (n + k) ≡ total_below f n
 first_terms f n zero none = let e : n + 0 ≡ n = omega arith in ap (total_below f) e
-first_terms f n (suc k) none =
-    let e : n + suc k ≡ suc (n + k) = omega arith in
-    ap (total_below f) e ∙ omega (arith, ints, first_terms f n k none, none (n + k) (omega arith))
+first_terms f n (suc k) none = let e : n + suc k ≡ suc (n + k) = omega arith in search (rules, first_terms f n k none)
 
 -- The first weights are in range.
 pub range_begun : (n first : ℕ) (f : Forest) → f.size ≡ n + n / 2 → ((b : ℕ) → n ≤ b → f.weight b ≡ pos 0)
@@ -60,22 +55,13 @@ pub known_most : {g : WeightedGraph} → IsGraph g → (most : ℕ)
     → ((e : ℕ) → e < length g.edges → unsigned_abs (edge_at g e).cost ≤ most) → {m : List ℕ} → IsPerfect g m
     → (pos 2 *ℤ matching_cost g m) ≤ℤ pos (g.n * most)
 known_most {g} is most each {m} perfect =
-    let ends = ends_once (λ (e : WEdge). e.u) (λ (e : WEdge). e.v) (λ v. pos most) g.n (map (edge_at g) m)
-    (chosen_below g is 0 m perfect.increasing) perfect.once in
+    let ends = ends_once _ _ (λ v. pos most) _ _ (chosen_below g is 0 m perfect.increasing) perfect.once in
     let small = total_below_small (λ v. pos most) most g.n (λ v l. omega (arith, ints)) in
-    omega (arith, ints, costs_low g most 0 m each perfect.increasing)
+    omega (arith, ints, costs_low g _ 0 m each perfect.increasing)
 
 pub known_low : {g : WeightedGraph} → IsGraph g → IsCheap g → {m : List ℕ} → IsPerfect g m
     → (pos 2 *ℤ matching_cost g m) ≤ℤ pos MAX_PRODUCT
-known_low {g} is cheap perfect =
-    let w = greatest g cheap in omega (arith, ints, known_most is w.0 w.1 perfect, w.2)
-
-change_low : (l : Label) (w : ℤ) (x : ℕ) → unsigned_abs (w +ℤ weight_change l (pos x)) ≤ unsigned_abs w + x
-change_low l w x = grind (arith, ints)
-
--- Nothing happens before what has happened.
-pub key_high : (g : WeightedGraph) (f : Forest) (risen k : ℕ) → risen ≤ no_key → risen ≤ true_key g f risen k
-key_high g f risen k few = grind arith
+known_low {g} is cheap perfect = let w = greatest g cheap in omega (arith, ints, known_most is _ w.1 perfect, w.2)
 
 module _ {g : WeightedGraph} (is : IsGraph g) (cheap : IsCheap g) {m : List ℕ} (perfect : IsPerfect g m) {n first : ℕ}
     (limit : n * first ≤ first_limit) (low : first ≤ first_limit) {f : Forest} {risen : ℕ}
@@ -101,8 +87,7 @@ module _ {g : WeightedGraph} (is : IsGraph g) (cheap : IsCheap g) {m : List ℕ}
   module _ {r : ℕ} (valid : IsValid (darts_of g) f (Some r)) where
     -- A shift.
     pub range_shifted : (x : ℕ) → IsInRange n first (shifted f (pos x)) (risen + x)
-    range_shifted x =
-        let rises = sum_rises (are_darts is) valid (valid.tree r refl) (pos x) in search rules
+    range_shifted x = let rises = sum_rises (are_darts is) valid (valid.tree r refl) (pos x) in search rules
 
     module _ (most : ℕ) (sets : length g.edges + (f.size - g.n) ≤ most) where
       -- How far a lawful shift goes.
@@ -121,7 +106,6 @@ module _ {g : WeightedGraph} (is : IsGraph g) (cheap : IsCheap g) {m : List ℕ}
             let e : risen + x ≡ risen_limit + 1 = omega (arith, risen_low valid) in
             absurd (omega (
               arith,
-              reach_low x (lawful g is f valid.outermost valid.feasible risen x most sets
-                  (λ k l. omega (arith, low k l))),
+              reach_low x (lawful g is f valid.outermost valid.feasible risen x _ sets (λ k l. omega (arith, low k l))),
             )))
       ]

@@ -1,20 +1,19 @@
 -- What each step leaves of a search, and which step a key names.
-use Rattle.std.proofs.Common.{rules, ◌≡◌, ◌≢◌, ℕ, ◌+◌, ◌-◌, ◌*◌, ◌/◌, ◌<◌, ◌≤◌, Bool, false, cond, eqb, length, Option}
-use Rattle.std.proofs.Common.{Some, None, ℤ, pos, ◌⊎◌, refl, sym, ◌∙◌, ap, inl, inr, arith}
+use Rattle.std.proofs.Common.{rules, ◌≡◌, ◌≢◌, ℕ, ◌+◌, ◌-◌, ◌*◌, ◌/◌, ◌<◌, ◌≤◌, Bool, false, cond, length, Option, Some}
+use Rattle.std.proofs.Common.{None, ℤ, pos, ◌⊎◌, refl, sym, ◌∙◌, ap, inl, inr, arith}
 use Rattle.std.proofs.{lemmas.Int.ints, lemmas.Bool.cases_eq, lemmas.Bool.cases_Bool}
-use Rattle.{std.specs.Int.RustNames.unsigned_abs, std.specs.Prelude.int_lt, sum_laws.proofs.Sums.total_below_same}
-use Rattle.def_matching.specs.Matching.{WeightedGraph, IsGraph, edge_at}
 use Rattle.def_forest.specs.declared.kinds.EdgeKind.TheVariants.{Augment, Grow, Shrink}
-use Rattle.def_forest.specs.{Darts.darts_of, Forests.Forest, Opened.Opening, Opened.IsOpening, Opened.IsOpened}
-use Rattle.def_forest.specs.{Shrunk.IsShrinking, Steps.rooted, Steps.IsAugmented, Tables.kind_by, Tables.edge_kind}
-use Rattle.def_forest.specs.{Tables.slack_of, Valid.IsValid, declared.kinds.EdgeKind.EdgeKind}
-use Rattle.def_forest.specs.{declared.kinds.Label.Label, declared.kinds.Label.TheVariants.Outer}
-use Rattle.def_forest.specs.{declared.kinds.Label.TheVariants.Inner}
-use Rattle.forest_laws.proofs.{Expands.halves, Walks.slack_even, Grows.some_is}
-use Rattle.search_laws.specs.{Keys.no_key, Keys.edge_key_by, Keys.set_of, Keys.true_key, Searches.IsSeeking}
-use Rattle.search_laws.specs.{Searches.AreMatchedBefore, Searches.IsInRange}
+use Rattle.def_forest.specs.{Darts.darts_of, Forests.Forest, Shrunk.IsShrinking, Steps.rooted, Steps.IsAugmented}
+use Rattle.def_forest.specs.{Valid.IsValid, declared.kinds.EdgeKind.EdgeKind, declared.kinds.Label.Label}
+use Rattle.def_forest.specs.Opened.{Opening, IsOpening, IsOpened}
+use Rattle.def_forest.specs.Tables.{kind_by, edge_kind, slack_of}
+use Rattle.def_forest.specs.declared.kinds.Label.TheVariants.{Outer}
+use Rattle.search_laws.specs.Keys.{no_key, edge_key_by, true_key}
+use Rattle.search_laws.specs.Searches.{IsSeeking, AreMatchedBefore, IsInRange}
+use Rattle.{std.specs.Prelude.int_lt, sum_laws.proofs.Sums.total_below_same, def_matching.specs.Matching.WeightedGraph}
+use Rattle.{def_matching.specs.Matching.IsGraph, forest_laws.proofs.Expands.halves, forest_laws.proofs.Walks.slack_even}
+use Rattle.{forest_laws.proofs.Grows.some_is, search_laws.proofs.Kept.shrunk_on, search_laws.proofs.Kept.shrunk_off}
 use Rattle.search_laws.proofs.{Keys.at_edge, Keys.slack_high, Kept.expansion as the_expansion, Kept.shrink}
-use Rattle.search_laws.proofs.{Kept.shrunk_on, Kept.shrunk_off}
 use Rattle.forest_laws.proofs.Expands as expands
 use Rattle.forest_laws.proofs.Shrinks as shrinks
 
@@ -105,18 +104,9 @@ pub edge_step : {g : WeightedGraph} → IsGraph g → {f : Forest} {root : Optio
     → IsValid (darts_of g) f root → e < length g.edges → true_key g f risen e ≡ risen → risen < no_key
     → IsStep (edge_kind g f e)
 edge_step {g} is {f} {root} {risen} e valid low key few =
-    let u = f.out (edge_at g e).u in
-    let v = f.out (edge_at g e).v in
-    let step = key_step (f.label u) (f.label v) (f.mate u) (f.mate v) (eqb u v) (unsigned_abs (slack_of g f e))
-    (sym (at_edge g f risen e low) ∙ key) few in
-    let high = slack_high g e valid.feasible low in
+    let step = key_step _ _ _ _ _ _ (sym (at_edge g f _ e low) ∙ key) few in
     let tight : slack_of g f e ≡ pos 0 = elim step.1 [
       | inl none ↦ omega (arith, ints)
-      | inr w ↦ omega (arith, ints, (slack_even g f root e is valid low w.1 w.2).1, w.0)
+      | inr w ↦ omega (arith, ints, (slack_even g f _ e is valid low w.1 w.2).1, w.0)
     ] in
     rw (not_loose tight) step.0
-
--- A set whose key has come may be opened.
-pub set_step : (g : WeightedGraph) (f : Forest) {risen : ℕ} (k : ℕ) → length g.edges ≤ k → true_key g f risen k ≡ risen
-    → risen < no_key → (f.label (set_of g k) ≡ Inner) × (f.weight (set_of g k) ≡ pos 0)
-set_step g f {risen} k h key few = search rules

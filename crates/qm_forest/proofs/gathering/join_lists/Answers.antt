@@ -1,6 +1,6 @@
-use Rattle.std.proofs.Common.{◌≡◌, suc, ◌+◌, ◌-◌, ◌∙◌, length-set, add-one, get_or, refl, ap, arith}
-use Rattle.{std.proofs.Math.ListN.set, def_forest.specs.Forests.walk, def_forest.specs.Forests.ring_sum}
-use Rattle.qm_forest.proofs.{JoinedLists.ring_sum_below, Expandings.next_place}
+use Rattle.std.proofs.Common.{rules, ◌≡◌, suc, ◌+◌, ◌-◌, add-one, get_or, refl, ap, arith}
+use Rattle.{def_forest.specs.Forests.walk, def_forest.specs.Forests.ring_sum}
+use Rattle.qm_forest.proofs.JoinedLists.{ring_sum_below}
 use Rattle.qm_forest.proofs.RenamedRows.{entry_low, entry_read, written_more}
 use Rattle.qm_forest.proofs.gathering.join_lists.Goals.{After-index, After-index-end, After-index-in-loop}
 use Rattle.qm_forest.proofs.gathering.join_lists.Goals as goal
@@ -58,23 +58,16 @@ overflow_add-total c =
 pub loop-preserved : goal.loop-preserved
 loop-preserved c =
     let at = goal.at.loop-preserved c in
-    let ends = c.requires.lists.ends c.loop.counter (omega (arith, c.loop-test.true)) in
     let total : c.loop.total + c.index-in-loop.result.now ≡ ring_sum (λ k. get_or c.args.after.now k 0)
     (λ k. get_or c.args.lists.now.rank.items k 0) c.args.front (suc (c.loop.counter + 1)) =
-    rw (add-one c.loop.counter) (omega (arith, more_is at.After-index-in-loop)) in
-    let next = written_more c.loop.lists.following.items c.args.lists.now.following.items
-    (λ k. get_or c.args.lists.now.last.items (walk (λ k. get_or c.args.after.now k 0) c.args.front k) 0)
-    (λ k. get_or c.args.lists.now.first.items (walk (λ k. get_or c.args.after.now k 0) c.args.front (suc k)) 0)
-    c.loop.counter (omega (arith, end_is at.After-index-end)) c.loop.invariant.following (end_is at.After-index-end)
-    (first_is at.After-index) (add-one c.loop.counter) in
-    let size = length-set c.loop.lists.following.items c.index-end.result.now c.index.result.now ∙ c.loop.invariant.size
-    in
-    assumption (next_place c.args.after.now c.args.front _ refl c.loop.invariant.here refl)
+    rw (add-one _) (omega (arith, more_is at.After-index-in-loop)) in
+    let next = written_more _ _ _ _ _ (omega (arith, end_is at.After-index-end)) c.loop.invariant.following
+    (end_is at.After-index-end) (first_is at.After-index) (add-one _) in
+    search rules
 
 pub returns : goal.returns
 returns c =
     let all : c.loop.counter ≡ c.args.many - 1 = omega (arith, c.loop-test.false, c.loop.auto.counter-end) in
-    let some : suc c.loop.counter ≡ c.args.many = omega arith in
     let front_is = entry_read 0 c.requires.lists.row c.requires.lists.row.some refl
     (ap (λ o. o.items) c.loop.invariant.first) c.requires.lists.first c.index-2.ensures in
     let last_is = entry_read (c.args.many - 1) c.requires.lists.row (omega arith) (rw (← all)
@@ -84,8 +77,6 @@ returns c =
       size = c.loop.invariant.size;
       first = rw (c.loop.invariant.first, front_is);
       last = rw (c.loop.invariant.last, last_is);
-      rank = rw c.loop.invariant.rank (ap (set c.args.lists.now.rank.items c.args.set) (c.loop.invariant.total
-          ∙ ap (ring_sum (λ k. get_or c.args.after.now k 0) (λ k. get_or c.args.lists.now.rank.items k 0) c.args.front)
-          some));
+      rank = search rules;
       leader = c.loop.invariant.leader;
     }

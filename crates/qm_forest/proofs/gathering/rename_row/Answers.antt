@@ -6,8 +6,4 @@ pub rename_to-requires : goal.rename_to-requires
 rename_to-requires c = search (rules, row_lists, row_leaders)
 
 pub loop-preserved : goal.loop-preserved
-loop-preserved c = record {
-  here = rw (add-one c.loop.counter, c.loop.invariant.here);
-  done = row_more c.requires c.loop-test.true c.loop.invariant.here c.loop.invariant.done
-      c.rename_to.ensures (add-one c.loop.counter);
-}
+loop-preserved c = record { here = rw (add-one _, c.loop.invariant.here); done = search (rules, row_more, add-one) }

@@ -1,5 +1,5 @@
-use Rattle.std.proofs.Common.{add-one, ◌≡◌, ◌+◌, ◌<◌, ◌++◌, ◌∙◌, [], ◌∷◌, length, ap, arith}
-use Rattle.std.proofs.{lemmas.Grind.common_steps, lemmas.List.get_or_read, lemmas.List.length_push}
+use Rattle.std.proofs.Common.{rules, add-one, ◌≡◌, ◌+◌, ◌<◌, ◌++◌, ◌∙◌, [], ◌∷◌, length, arith}
+use Rattle.std.proofs.{lemmas.Grind.common_steps, lemmas.List.get_or_read}
 use Rattle.qm_forest.proofs.Chosens.{copied_more}
 
 pub loop-preserved : Rattle.qm_forest.proofs.members.list_members.Goals.loop-preserved
@@ -11,8 +11,7 @@ loop-preserved c =
     record {
       here = get_or_read c.args.lists.now.following.items c.loop.v _ low c.index-v-in-loop.ensures 0
           ∙ rw (add-one c.loop.counter, c.loop.invariant.here);
-      count = ap length pushed ∙ (length_push c.loop.list.items c.loop.v
-          ∙ (let e : length c.loop.list.items + 1 ≡ c.loop.counter + 1 = omega arith in e));
+      count = search rules;
       each = copied_more _ _ _ pushed c.loop.invariant.count c.loop.invariant.here c.loop.invariant.each;
       room = omega arith;
     }

@@ -1,3 +1,4 @@
+use Rattle.std.proofs.Common.{rules}
 use Rattle.{std.proofs.Common.add-one, qm_forest.proofs.JoinedLists.part_needs, qm_forest.proofs.JoinedLists.row_more}
 use Rattle.qm_forest.proofs.parting.hand_over_row.Goals as goal
 
@@ -5,8 +6,4 @@ pub hand_over-requires : goal.hand_over-requires
 hand_over-requires c = assumption (part_needs c.requires c.loop-test.true c.loop.invariant.here c.loop.invariant.done)
 
 pub loop-preserved : goal.loop-preserved
-loop-preserved c = record {
-  here = rw (add-one c.loop.counter, c.loop.invariant.here);
-  done = row_more c.requires c.loop-test.true c.loop.invariant.here c.loop.invariant.done
-      (add-one c.loop.counter) c.hand_over.ensures;
-}
+loop-preserved c = record { here = rw (add-one _, c.loop.invariant.here); done = search (rules, row_more, add-one) }

@@ -1,4 +1,4 @@
-use Rattle.std.proofs.Common.{◌∙◌, sym, arith}
+use Rattle.std.proofs.Common.{rules, ◌∙◌, sym, arith}
 use Rattle.qm_forest.proofs.Increases.{rise_dart, root_level, far_way, climbed}
 use Rattle.qm_forest.proofs.forest.Forest.climb.Goals as goal
 
@@ -22,5 +22,4 @@ loop-d-preserved c = record {
 pub returns-clause-steps : goal.returns-clause-steps
 returns-clause-steps c =
     let at = climbed c.args.g.now.small c.requires.valid c.requires.named c.loop-d.invariant.climbed in
-    let root = root_level c.args.g.now.small c.requires.valid _ at.0 (sym c.rise.ensures.value ∙ c.in_default.is) in
-    omega (arith, c.loop-d.invariant.few, at.1)
+    search (rules, root_level)

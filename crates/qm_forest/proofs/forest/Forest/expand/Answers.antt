@@ -1,8 +1,7 @@
-use Rattle.{std.proofs.Common.rules, qm_forest.proofs.Openings.CanOpen, qm_forest.proofs.Openings.partable}
+use Rattle.std.proofs.Common.{rules, length, ◌∙◌, ap}
+use Rattle.qm_forest.proofs.{Openings.CanOpen, Openings.partable, Expandings.expanded}
 use Rattle.qm_forest.proofs.Expandings.{Expanding, matched, mate_low, link_low, vertex_low, places_low, reached3, tops3}
-use Rattle.qm_forest.proofs.Expandings.{expanded}
 use Rattle.qm_forest.proofs.forest.Forest.expand.Goals.{After-parts-many, After-outermost-last}
-use Rattle.{std.proofs.Common.length, std.proofs.Common.◌∙◌, std.proofs.Common.ap}
 use Rattle.qm_forest.proofs.forest.Forest.expand.Goals as goal
 
 ready : (c : After-parts-many) → CanOpen c.args.g.now.graph c.args.self.now c.args.b
@@ -24,8 +23,7 @@ near-requires c = mate_low (ready (goal.at.near-requires c).After-parts-many) c.
 pub outermost-first-requires : goal.outermost-first-requires
 outermost-first-requires c =
     let it = ready (goal.at.outermost-first-requires c).After-parts-many in
-    vertex_low it c.open.ensures c.near.result c.mate_dart-mate.result c.near.ensures
-    (mate_low it c.mate_dart-mate.ensures)
+    vertex_low it c.open.ensures _ _ c.near.ensures (mate_low it c.mate_dart-mate.ensures)
 
 pub near-requires-2 : goal.near-requires-2
 near-requires-2 c = link_low (ready (goal.at.near-requires-2 c).After-parts-many) c.link-link.ensures

@@ -44,9 +44,7 @@ index_mut-requires-2 c =
     omega (arith, ap (λ o. length o.items) c.join_lists.ensures.leader)
 
 pub enclose-requires : goal.enclose-requires
-enclose-requires c =
-    let it = taken (goal.at.enclose-requires c).After-take_set-set in
-    assumption (set_low it)
+enclose-requires c = let it = taken (goal.at.enclose-requires c).After-take_set-set in assumption (set_low it)
 
 pub invariant_of-self : goal.invariant_of-self
 invariant_of-self c =
@@ -54,8 +52,7 @@ invariant_of-self c =
     let it = taken at.After-take_set-set in
     let big = on at.After-rename_row-big in
     tied_after it big (rw c.deref.ensures.value at c.rename_row-big.ensures.renamed) (rw c.deref-2.ensures.value
-    at c.join_lists.ensures) c.enclose.ensures (rw c.deref-3.ensures.value at c.enclosed_root-self-inside.ensures)
-    (leader_is at.After-index-leader (big_low it big))
+    at c.join_lists.ensures) c.enclose.ensures (search rules) (leader_is at.After-index-leader (big_low it big))
 
 pub returns-clause-gathered : goal.returns-clause-gathered
 returns-clause-gathered c =

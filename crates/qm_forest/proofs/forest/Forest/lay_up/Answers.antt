@@ -24,9 +24,8 @@ loop-preserved c =
     let next = c.far_blossom-y.ensures.value
     ∙ (ap (λ d. (forest_of c.loop.self).out (far (darts_of c.args.g.now.graph) d)) c.rise_from-d.ensures ∙ it.next) in
     record {
-      here = rw (add-one c.loop.counter) next;
-      seen = rw (add-one c.loop.counter) (laid_more_up (darts_of c.args.g.now.graph) (forest_of c.args.self.now)
-          c.args.c c.loop.counter c.loop.invariant.seen c.lay.ensures.seen c.loop.invariant.here next
-          (c.rise_from-d.ensures ∙ ap dart_or it.same));
+      here = rw (add-one _) next;
+      seen = rw (add-one _) (laid_more_up (darts_of c.args.g.now.graph) _ c.args.c c.loop.counter c.loop.invariant.seen
+          c.lay.ensures.seen c.loop.invariant.here next (c.rise_from-d.ensures ∙ ap dart_or it.same));
       same = alike_more c.args.self.now c.loop.self c.lay.new.self c.loop.invariant.same c.lay.ensures.same;
     }

@@ -1,12 +1,11 @@
-use Rattle.std.proofs.{Common.◌≡◌, Common.length, Common.ap, Common.arith, lemmas.List.Sorted.length_permutation}
-use Rattle.def_forest.specs.Tables.{ForestTables}
-use Rattle.qm_forest.proofs.Waitings.{sets_moved, sets_none}
+use Rattle.std.proofs.Common.{rules, ◌≡◌, length, ap, arith}
+use Rattle.{std.proofs.lemmas.List.Sorted.length_permutation, def_forest.specs.Tables.ForestTables}
+use Rattle.{qm_forest.proofs.Waitings.sets_moved, qm_forest.proofs.Waitings.sets_none}
 use Rattle.qm_forest.proofs.forest.Forest.list_sets.Goals as goal
 
 pub loop-b-init : goal.loop-b-init
 loop-b-init c = record {
-  count = (let none : length c.clear.new.self.items ≡ 0 = ap length c.clear.ensures.items in
-      omega (arith, c.vertices-b.ensures));
+  count = search rules;
   room = omega arith;
   has = rw c.vertices-b.ensures (sets_none _ _ (ap length c.clear.ensures.items));
 }

@@ -9,27 +9,22 @@ a_is : (c : After-is_mate-matched) → c.outermost-a.result
     ≡ (forest_of c.args.self.now).out (near_at c.args.self.now (2 * c.args.e))
 a_is c = c.outermost-a.ensures.value ∙ ap (forest_of c.args.self.now).out c.start_of.ensures
 
-matches_as : (c : After-is_mate-matched) → c.is_mate-matched.result ≡ matches c.args.self.now c.args.e
-matches_as c = search rules
-
 b_is : (c : After-outermost-b) → c.outermost-b.result
     ≡ (forest_of c.args.self.now).out (near_at c.args.self.now (2 * c.args.e + 1))
 b_is c = c.outermost-b.ensures.value ∙ ap (forest_of c.args.self.now).out c.start_of-then-matched.ensures
 
 pub pair-requires-clause-pairing : goal.pair-requires-clause-pairing
 pair-requires-clause-pairing c =
-    let at = goal.at.pair-requires-clause-pairing c in
-    let on : matches c.args.self.now c.args.e ≡ true = sym (matches_as at.After-is_mate-matched) ∙ c.if-matched.true in
-    rw (a_is at.After-is_mate-matched, b_is at.After-outermost-b)
-    (matches_is c.requires.room.laminar c.requires.room.sound.1 _ on).pairing
+    let on : matches c.args.self.now c.args.e ≡ true = sym (search rules) ∙ c.if-matched.true in
+    rw (a_is _, b_is _) (matches_is c.requires.room.laminar c.requires.room.sound.1 _ on).pairing
 
 pub returns-then-matched-clause-done : goal.returns-then-matched-clause-done
 returns-then-matched-clause-done c =
     let at = goal.at.returns-then-matched-clause-done c in
-    let on : matches c.args.self.now c.args.e ≡ true = sym (matches_as at.After-is_mate-matched) ∙ c.if-matched.true in
+    let on : matches c.args.self.now c.args.e ≡ true = sym (search rules) ∙ c.if-matched.true in
     edge_more c.requires.room.laminar c.requires.room.sound.1 _ _ refl c.requires.room.marks c.requires.room.left_out
     (matches_is c.requires.room.laminar c.requires.room.sound.1 _ on).mate c.pair.ensures.marks (rw
     (a_is at.After-is_mate-matched, b_is at.After-outermost-b) at c.pair.ensures.left_out) c.requires.begun
 
 pub returns-else-matched-clause-done : goal.returns-else-matched-clause-done
-returns-else-matched-clause-done c = search (rules, false, matches_as, edge_same, true_false, dart_is)
+returns-else-matched-clause-done c = search (rules, false, edge_same, true_false, dart_is)

@@ -1,7 +1,7 @@
 use Rattle.std.proofs.Common.{rules, ◌≡◌, suc, ◌+◌, ◌*◌, ◌/◌, ◌<◌, get_or, refl, ◌∙◌, ap, inl, inr, arith}
 use Rattle.qm_forest.proofs.RingRounds.{ring_begun, ring_ended, ring_turn, turn_entries, turn_pairing}
 use Rattle.qm_forest.proofs.forest.Forest.match_ring.Goals.{After-joint-d, After-parts-end}
-use Rattle.{def_forest.specs.Forests.walk, def_forest.specs.Tables.up_at, qm_forest.specs.Rounds.IsPairing}
+use Rattle.{def_forest.specs.Tables.up_at, qm_forest.specs.Rounds.IsPairing}
 use Rattle.qm_forest.proofs.forest.Forest.match_ring.Goals as goal
 
 parts_is : (c : After-parts-end) → c.parts-end.result
@@ -30,18 +30,15 @@ loop-preserved c =
     let low : c.loop.counter < get_or c.args.self.now.parts (up_at c.args.self.now.up c.args.p) 0 / 2 =
     omega (arith, c.loop-test.true, parts_is (goal.at.loop-preserved c).After-parts-end) in
     record {
-      here = c.next-x-in-loop.ensures ∙ (ap (λ z. get_or c.args.self.now.after z 0)
-          (c.next-y.ensures ∙ ap (λ z. get_or c.args.self.now.after z 0) c.loop.invariant.here)
-          ∙ ap (walk (λ k. get_or c.args.self.now.after k 0) (get_or c.args.self.now.after c.args.p 0)) two);
+      here = search rules;
       room = c.pair.ensures.room;
       done = λ rest due r. rw c.next-x-in-loop.ensures (ring_turn c.requires.room.laminar c.requires.room.sound.1
-          c.requires.inner rest c.loop.counter (c.loop.counter + 1) c.loop.invariant.here low c.next-y.ensures
+          c.requires.inner _ _ _ c.loop.invariant.here low c.next-y.ensures
           c.joint-d.ensures refl c.loop.invariant.room.marks c.loop.invariant.room.left_out c.pair.ensures.marks
           c.pair.ensures.left_out (c.loop.invariant.done rest due r));
-      entries = λ b v e. elim (turn_entries c.requires.room.laminar c.requires.room.sound.1 c.requires.inner
-          c.loop.round.left_out.items c.loop.counter c.joint-d.result b v c.loop.invariant.here c.next-y.ensures
-          c.loop.invariant.room.left_out c.pair.ensures.left_out it.low_x it.low_y e)
-          [ inl x ↦ c.loop.invariant.entries b v x | inr y ↦ inr y ];
+      entries = λ b v e. elim (turn_entries c.requires.room.laminar c.requires.room.sound.1 c.requires.inner _ _ _ b v
+          c.loop.invariant.here c.next-y.ensures c.loop.invariant.room.left_out c.pair.ensures.left_out it.low_x
+          it.low_y e) [ inl x ↦ c.loop.invariant.entries b v x | inr y ↦ inr y ];
     }
 
 pub returns-clause-done : goal.returns-clause-done

@@ -1,6 +1,6 @@
-use Rattle.std.proofs.Common.{◌≡◌, ◌<◌, length, get_or, Some, None, sym, ◌∙◌, inl, inr}
+use Rattle.std.proofs.Common.{rules, ◌≡◌, ◌<◌, length, get_or, Some, None, sym, ◌∙◌, inl, inr}
 use Rattle.std.proofs.lemmas.List.{get_or_read}
-use Rattle.qm_forest.proofs.{Waitings.taken, Waitings.taken_entries, forest.Forest.match_set.Goals.In-Some}
+use Rattle.qm_forest.proofs.{Waitings.taken, forest.Forest.match_set.Goals.In-Some}
 use Rattle.qm_forest.proofs.forest.Forest.match_set.Goals as goal
 
 low : (c : In-Some) → c.args.c < length c.args.round.now.left_out.items
@@ -21,7 +21,6 @@ returns-in-Some-clause-done c rest due r =
 
 pub returns-in-Some-clause-entries : goal.returns-in-Some-clause-entries
 returns-in-Some-clause-entries c b w is = elim (c.match_up.ensures.entries b w is) [
-  | inl was ↦ inl (taken_entries c.args.round.now.left_out.items c.args.c b w
-      (low (goal.at.returns-in-Some-clause-entries c).In-Some) was)
+  | inl was ↦ search rules
   | inr less ↦ inr less
 ]

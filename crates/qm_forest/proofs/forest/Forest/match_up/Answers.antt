@@ -1,8 +1,8 @@
-use Rattle.std.proofs.Common.{rules, ◌∙◌, ap, inl, inr, arith, length}
+use Rattle.std.proofs.Common.{rules, inl, inr, arith, length}
 use Rattle.qm_forest.proofs.RingRounds.{above_more, climb_begins, climb_ends, climbs_on, held_more, next_rank}
 use Rattle.qm_forest.proofs.RingRounds.{ring_climb, rises_here, top_rank}
 use Rattle.qm_forest.proofs.Enclosed.{climbs_here, climbs_place}
-use Rattle.{def_forest.specs.Tables.up_at, qm_forest.specs.Rounds.within}
+use Rattle.def_forest.specs.Tables.{up_at}
 use Rattle.qm_forest.proofs.forest.Forest.match_up.Goals as goal
 
 pub loop-p-init : goal.loop-p-init
@@ -30,8 +30,7 @@ loop-p-preserved c =
     let next = next_rank known c.args.c lv held c.loop-p.invariant.above c.loop-p-test.true in
     record {
       above = rw c.up_at-p.ensures.value more;
-      held = ap (within c.args.self.now c.args.v) c.up_at-p.ensures.value ∙ held_more known c.args.c lv held
-          c.loop-p.invariant.above c.loop-p-test.true c.loop-p.invariant.held;
+      held = search (rules, held_more);
       low = c.up_at-p.ensures.low c.loop-p.invariant.low;
       room = c.match_ring.ensures.room;
       done = λ rest due r. rw c.up_at-p.ensures.value (c.match_ring.ensures.done _ due (ring_climb known

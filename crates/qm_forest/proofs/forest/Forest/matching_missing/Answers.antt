@@ -17,6 +17,5 @@ match_waiting-requires-clause-begun c = (_, _, begun (goal.at.match_waiting-requ
 
 pub returns : goal.returns
 returns c g is valid = matches_but c.match_waiting.ensures.room.laminar (sound is valid)
-    c.match_waiting.ensures.room.marks (rw c.deref-2.ensures.value at c.list_marked.ensures) c.args.b c.args.v
-    c.requires.held.vertex (c.match_waiting.ensures.done _ _ (begun (goal.at.returns c).After-match_up))
-    c.match_waiting.ensures.ended
+    c.match_waiting.ensures.room.marks (rw c.deref-2.ensures.value at c.list_marked.ensures) _ _ c.requires.held.vertex
+    (c.match_waiting.ensures.done _ _ (begun (goal.at.returns c).After-match_up)) c.match_waiting.ensures.ended

@@ -1,7 +1,7 @@
-use Rattle.std.proofs.Common.{rules, ◌≡◌, ◌∙◌, ap, sym, arith}
+use Rattle.std.proofs.Common.{rules, ◌≡◌, ◌∙◌, sym, arith}
 use Rattle.def_forest.specs.{Darts.darts_of, Tables.forest_of}
-use Rattle.qm_forest.proofs.Increases.{climbed, climbed_nearer, climbed_on, none_of, root_on_both}
-use Rattle.{std.specs.Prelude.is_some, forest_laws.specs.Climbing.level_of, forest_laws.proofs.Levels.level_few}
+use Rattle.qm_forest.proofs.Increases.{climbed, climbed_nearer, climbed_on, root_on_both}
+use Rattle.{forest_laws.specs.Climbing.level_of, forest_laws.proofs.Levels.level_few}
 use Rattle.qm_forest.proofs.forest.Forest.meeting.Goals as goal
 
 pub returns-in-Some-clause-both : goal.returns-in-Some-clause-both
@@ -27,6 +27,4 @@ pub returns-clause-both : goal.returns-clause-both
 returns-clause-both c =
     let whole : c.climb.result.1 ≡ level_of (darts_of c.args.g.now.graph) (forest_of c.args.self.now) c.args.c =
     omega (arith, level_few (darts_of c.args.g.now.graph) (forest_of c.args.self.now) c.args.c) in
-    rw whole (root_on_both c.args.g.now.small c.requires.valid c.args.c c.requires.first c.requires.second
-    c.loop-right.invariant.climbed
-    (none_of _ (ap is_some (sym c.rise.ensures.value) ∙ (sym c.is_some.ensures ∙ c.loop-right-test.false))))
+    search (rules, root_on_both)

@@ -1,4 +1,4 @@
-use Rattle.qm_forest.proofs.JoinedLists.{list_few}
+use Rattle.{std.proofs.Common.rules, qm_forest.proofs.JoinedLists.list_few}
 use Rattle.qm_forest.proofs.forest.Forest.members.Goals as goal
 
 pub list_members-requires-clause-lists : goal.list_members-requires-clause-lists
@@ -7,5 +7,4 @@ list_members-requires-clause-lists c =
     let low = rw (← c.self.view_is) at c.requires.used.low in
     let list = c.self.invariant.nest.members c.args.b low (rw (← c.self.view_is) at c.requires.used.used) in
     let many = rw (← sizes.following) at (list_few list) in
-    let below = rw (← sizes.following) at list.low in
-    assumption (rw (← sizes.first) at low, rw (← sizes.rank) at low)
+    search rules

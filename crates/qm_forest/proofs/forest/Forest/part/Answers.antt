@@ -16,10 +16,9 @@ many_is c = search (rules, get_or_read)
 opened : (c : After-open_ring) → Opened c.self.inside c.open_ring.new.rings c.args.b
 opened c = assumption (ready c, rw (front_is c, many_is c) at c.open_ring.ensures)
 
-parting_of : (c : After-give_set) (it : Opened c.self.inside c.open_ring.new.rings c.args.b)
-    → c.index-front.result.now ≡ get_or c.self.inside.rings.head.items c.args.b 0
-    → c.index-many.result.now ≡ get_or c.self.inside.rings.parts.items c.args.b 0
-    → Parting it c.hand_over_row.new.handles c.give_set.new.pool
+parting_of : (c : After-give_set) (it : Opened c.self.inside c.open_ring.new.rings c.args.b) → c.index-front.result.now
+    ≡ get_or c.self.inside.rings.head.items c.args.b 0 → c.index-many.result.now ≡ get_or
+    c.self.inside.rings.parts.items c.args.b 0 → Parting it c.hand_over_row.new.handles c.give_set.new.pool
 parting_of c it front_is many_is =
     let n_is : c.len.result ≡ length c.self.inside.handles.hand.items = omega arith in
     record {
@@ -41,12 +40,10 @@ give_set-requires c =
 pub invariant_of-self : goal.invariant_of-self
 invariant_of-self c =
     let at = (goal.at.invariant_of-self c).After-open_ring in
-    tied_parted (opened at)
-    (parting_of (goal.at.invariant_of-self c).After-give_set (opened at) (front_is at) (many_is at))
+    tied_parted _ (parting_of (goal.at.invariant_of-self c).After-give_set (opened at) (front_is at) (many_is at))
 
 pub returns-clause-parted : goal.returns-clause-parted
 returns-clause-parted c =
     let at = (goal.at.returns-clause-parted c).After-open_ring in
-    parted_as c.self.view_is
-    (parted_is (opened at)
-    (parting_of (goal.at.returns-clause-parted c).After-give_set (opened at) (front_is at) (many_is at)))
+    parted_as c.self.view_is (parted_is _ (parting_of (goal.at.returns-clause-parted c).After-give_set (opened at)
+    (front_is at) (many_is at)))

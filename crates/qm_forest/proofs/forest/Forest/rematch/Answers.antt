@@ -2,7 +2,7 @@ use Rattle.std.proofs.Common.{rules, ◌≡◌, length, Some, ◌∙◌, sym, ap
 use Rattle.def_forest.specs.{Darts.darts_of, Darts.far, Forests.Forest, Forests.set_at, Tables.forest_of}
 use Rattle.qm_forest.{specs.Ties.mated, specs.Ties.remated, proofs.forest.Forest.rematch.Goals.After-link-up}
 use Rattle.qm_forest.proofs.OnWays.{way_begins, way_goes_on, way_shorter, way_low, way_ends, old_low, up_low}
-use Rattle.qm_forest.proofs.OnWays.{remated_more, out_same, link_same, same_nest, seen_own}
+use Rattle.qm_forest.proofs.OnWays.{remated_more, out_same, link_same, seen_own}
 use Rattle.qm_forest.proofs.forest.Forest.rematch.Goals as goal
 
 pub loop-old-init : goal.loop-old-init
@@ -41,8 +41,7 @@ far_blossom-at-requires c =
     let at = (goal.at.far_blossom-at-requires c).After-link-up in
     assumption (
       up_low c.loop-old.invariant.way c.in-Some.old (sym c.mate.ensures ∙ c.in-Some.is) (inner_is at) (up_is at),
-      ap length (c.set_mate-in-Some-2.ensures.same.hand ∙ (c.set_mate-in-Some.ensures.same.hand
-          ∙ c.loop-old.invariant.same.hand)) ∙ c.requires.valid.vertices,
+      ap length (c.set_mate-in-Some-2.ensures.same.hand ∙ (search rules)) ∙ c.requires.valid.vertices,
     )
 
 pub loop-old-smaller : goal.loop-old-smaller
@@ -58,11 +57,9 @@ loop-old-preserved c =
     let seen = changed_twice at c.set_mate-in-Some-2.ensures.seen in
     record {
       way = way_goes_on c.loop-old.invariant.way c.in-Some.old (sym c.mate.ensures ∙ c.in-Some.is) (inner_is at)
-          (up_is at) (c.far_blossom-at.ensures.value ∙ out_same (forest_of c.args.self.now) _ _ seen)
-          c.twin-next.ensures (ap (λ (f : Forest). f.mate) seen);
+          (up_is at) (search rules) c.twin-next.ensures (ap (λ (f : Forest). f.mate) seen);
       seen = seen_own c.args.self.now c.set_mate-in-Some-2.new.self _ seen;
-      same = same_nest c.loop-old.invariant.same (same_nest c.set_mate-in-Some.ensures.same
-          c.set_mate-in-Some-2.ensures.same);
+      same = search rules;
     }
 
 pub set_mate-requires-2 : goal.set_mate-requires-2
@@ -70,5 +67,4 @@ set_mate-requires-2 c = rw c.loop-old.invariant.same.up (way_low c.loop-old.inva
 
 pub returns-clause-done : goal.returns-clause-done
 returns-clause-done c r root = way_ends c.loop-old.invariant.way (sym c.mate.ensures ∙ c.in_default.is) r root
-    (ap (λ (f : Forest). f.mate) (remated_more (forest_of c.args.self.now) _ _ _ c.loop-old.invariant.seen
-    c.set_mate-2.ensures.seen))
+    (search rules)

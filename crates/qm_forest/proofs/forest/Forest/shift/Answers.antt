@@ -1,7 +1,7 @@
-use Rattle.std.proofs.Common.{◌≡◌, ◌∙◌, ap, sym, refl, ℕ, Some, is_some, arith}
+use Rattle.std.proofs.Common.{rules, ◌≡◌, ap, refl, ℕ, Some, arith}
 use Rattle.{std.proofs.lemmas.Int.ints, def_forest.specs.Tables.ForestTables}
 use Rattle.qm_forest.proofs.{Meeting.seen_shift, Meeting.seen_still, Meeting.tied_shift, Meeting.valid_shift}
-use Rattle.qm_forest.proofs.{Shrinkings.seen_in, TiedWrites.delta_small, Increases.none_of, Increases.some_of}
+use Rattle.qm_forest.proofs.{Shrinkings.seen_in, TiedWrites.delta_small, Increases.some_of}
 use Rattle.qm_forest.proofs.forest.Forest.shift.Goals as goal
 
 pub overflow_add-self : goal.overflow_add-self
@@ -26,5 +26,4 @@ returns-then-is_some c =
     }
 
 pub returns-else-is_some-clause-changed : goal.returns-else-is_some-clause-changed
-returns-else-is_some-clause-changed c = seen_still c.args.t c.requires.valid
-    (none_of _ (ap (λ (t : ForestTables). is_some t.root) (sym c.self.view_is) ∙ cc))
+returns-else-is_some-clause-changed c = seen_still c.args.t c.requires.valid (search rules)

@@ -1,7 +1,6 @@
 use Rattle.std.proofs.Common.{◌≡◌, ◌<◌, length, ◌∙◌, false, get_or, arith}
-use Rattle.std.proofs.lemmas.Grind.{common_steps}
-use Rattle.qm_forest.proofs.{TiedWrites.mark_read, TiedWrites.trail_room, TiedWrites.tied_touched}
-use Rattle.qm_forest.proofs.{forest.Forest.touch.Goals.After-index}
+use Rattle.qm_forest.proofs.TiedWrites.{mark_read, trail_room, tied_touched}
+use Rattle.{std.proofs.lemmas.Grind.common_steps, qm_forest.proofs.forest.Forest.touch.Goals.After-index}
 use Rattle.qm_forest.proofs.forest.Forest.touch.Goals as goal
 
 low : (c : After-index) → c.args.v < length c.self.inside.handles.hand.items
@@ -13,8 +12,7 @@ mark_is c = mark_read _ c.args.v false (rw c.self.invariant.sizes.touched (low c
 pub unwrap-requires : goal.unwrap-requires
 unwrap-requires c =
     let at = (goal.at.unwrap-requires c).After-index in
-    c.push.ensures.succeeds (let room = trail_room c.self.invariant c.args.v (low at)
-    (mark_is at ∙ c.if-not-index.true) in
+    c.push.ensures.succeeds (let room = trail_room c.self.invariant _ (low at) (mark_is at ∙ c.if-not-index.true) in
     omega arith)
 
 pub invariant_of-self : goal.invariant_of-self

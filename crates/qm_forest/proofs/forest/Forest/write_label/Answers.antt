@@ -1,4 +1,4 @@
-use Rattle.std.proofs.Common.{◌≡◌, ◌≢◌, ◌<◌, ℕ, length, get_or, ◌∙◌, ap, pos, ◌+ℤ◌, arith}
+use Rattle.std.proofs.Common.{rules, ◌≡◌, ◌≢◌, ◌<◌, ℕ, length, get_or, pos, ◌+ℤ◌, arith}
 use Rattle.std.proofs.lemmas.Int.{ints}
 use mir.{Syntax.w128, Val.to_z, Val.of_z}
 use Rattle.def_forest.specs.{Steps.weight_change, Tables.forest_of, Tables.out_of, Tables.label_at}
@@ -57,14 +57,12 @@ exchange-off-requires-clause-small c =
     let read : get_or c.deref-6.result.now c.hand_of-handle.result (pos 0) ≡ get_or s.handles.off.items
     (get_or s.handles.hand.items c.args.v 0) (pos 0) = rw (c.deref-6.ensures.value, at.h_is) in
     let before : c.shift_at-before.result ≡ weight_change (label_at s.tree.label.items
-    (out_of s.handles.hand.items s.handles.top.items c.args.v)) s.weights.delta = rw (← at.b_is, ← at.label_is)
-    (c.shift_at-before.ensures.value ∙ ap (weight_change c.label_of.result) at.delta) in
+    (out_of s.handles.hand.items s.handles.top.items c.args.v)) s.weights.delta = search rules in
     omega (arith, ints, read, before, c.shift_at-before.ensures.small, added_small c.self.invariant c.args.v at.low)
 
 pub index_mut-requires : goal.index_mut-requires
 index_mut-requires c =
     let at = places (goal.at.index_mut-requires c).After-shift_at-after in
-    let low = c.self.invariant.nest.outs _ (c.self.invariant.nest.hands c.args.v at.low) in
     omega (arith, at.b_is, c.self.invariant.sizes.base, c.self.inside.weights.base.ok.0)
 
 pub index_mut-requires-2 : goal.index_mut-requires-2
@@ -76,7 +74,6 @@ index_mut-requires-2 c =
 pub index_mut-requires-3 : goal.index_mut-requires-3
 index_mut-requires-3 c =
     let at = places (goal.at.index_mut-requires-3 c).After-shift_at-after in
-    let low = c.self.invariant.nest.outs _ (c.self.invariant.nest.hands c.args.v at.low) in
     omega (arith, at.b_is, c.self.invariant.sizes.label, c.self.inside.tree.label.ok.0)
 
 pub invariant_of-self : goal.invariant_of-self
