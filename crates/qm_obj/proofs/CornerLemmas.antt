@@ -23,9 +23,6 @@ no_digits : (word : List ℕ) → list_any is_slash word ≡ true → list_all i
 no_digits [] is = absurd (false≢true is)
 no_digits (b ∷ bs) is = grind (arith, nat_tests, no_digits bs)
 
-slash_none : (word : List ℕ) → list_any is_slash word ≡ true → is_optional word ≡ false
-slash_none word h1 = search (rules, no_digits)
-
 -- The parts of a word without and with a slash.
 pub behind_none : (word : List ℕ) → list_any is_slash word ≡ false → slice_split is_slash word ≡ word ∷ []
 behind_none [] none = refl
@@ -36,11 +33,10 @@ behind_some [] is = absurd (false≢true is)
 behind_some (b ∷ bs) is = grind (arith, nat_tests, split_word bs, behind_some bs)
 
 -- The two last parts of a corner.
-two_words : (word : List ℕ)
-    → (leb (length (slice_split is_slash word)) 2 && list_all is_optional (slice_split is_slash word))
-    ≡ (is_optional (before_first is_slash word)
-    && (leb (length (parts_behind (drop (position_or_len is_slash word) word))) 1
-    && list_all is_optional (parts_behind (drop (position_or_len is_slash word) word))))
+two_words : (word : List ℕ) → (leb (length (slice_split is_slash word)) 2 && list_all is_optional
+    (slice_split is_slash word)) ≡ (is_optional (before_first is_slash word) &&
+    (leb (length (parts_behind (drop (position_or_len is_slash word) word))) 1 && list_all is_optional
+    (parts_behind (drop (position_or_len is_slash word) word))))
 two_words word = rw (split_word word) (grind (arith, nat_tests))
 
 -- The same of what stands behind the first part, with its slash.
@@ -48,8 +44,8 @@ pub last_part : (tail : List ℕ) → (leb (length (parts_behind tail)) 1 && lis
     ≡ is_optional (drop 1 tail)
 last_part [] = refl
 last_part (_ ∷ word) = elim (cases_Bool (list_any is_slash word)) [
-  | inl is ↦ and_left _ _ (behind_some word is) ∙ sym (slash_none word is)
-  | inr is ↦ rw (behind_none word is) (grind (arith))
+  | inl is ↦ and_left _ _ (behind_some word is) ∙ sym (search (rules, no_digits))
+  | inr is ↦ rw (behind_none word is) (grind arith)
 ]
 
 pub two_parts : (tail : List ℕ) → (leb (length (parts_behind tail)) 2 && list_all is_optional (parts_behind tail))
@@ -60,16 +56,14 @@ two_parts [] = refl
 two_parts (_ ∷ word) = two_words word
 
 -- A corner by its first index and what stands behind it.
-pub corner_parts : (word : List ℕ) → is_corner_word word
-    ≡ (is_signed (before_first is_slash word)
-    && (leb (length (parts_behind (drop (position_or_len is_slash word) word))) 2
-    && list_all is_optional (parts_behind (drop (position_or_len is_slash word) word))))
+pub corner_parts : (word : List ℕ) → is_corner_word word ≡ (is_signed (before_first is_slash word) &&
+    (leb (length (parts_behind (drop (position_or_len is_slash word) word))) 2 && list_all is_optional
+    (parts_behind (drop (position_or_len is_slash word) word))))
 corner_parts word = ap are_indices (split_word word)
 
 -- The line that an index names, by its clamped number.
-pub named_count : (before : ℕ) (word : List ℕ) → before < 2 ^ 32
-    → let n = min (number_written (unsigned word)) (2 ^ 64 - 1) in
-    cond (eqb n 0 || (is_negative word && ltb before n)) 0 (cond (is_negative word) (before + 1 - n) n)
+pub named_count : (before : ℕ) (word : List ℕ) → before < 2 ^ 32 → let n = min (number_written (unsigned word))
+    (2 ^ 64 - 1) in cond (eqb n 0 || (is_negative word && ltb before n)) 0 (cond (is_negative word) (before + 1 - n) n)
     ≡ named before word
 named_count before word small = grind (arith, nat_tests)
 
@@ -94,8 +88,7 @@ plain_index (b ∷ bs) all =
     let plus : eqb b 43 ≡ false = ne_eqb _ _ (λ (e : b ≡ 43). omega arith) in
     let minus : eqb b 45 ≡ false = ne_eqb _ _ (λ (e : b ≡ 45). omega arith) in
     let bare : unsigned (b ∷ bs) ≡ b ∷ bs = rw (plus, minus) refl in
-    let whole = none_from_all is_ascii_digit is_slash (λ c is. ne_eqb _ _ (λ (e : c ≡ 47). omega (arith, high c is)))
-    (b ∷ bs) all in
+    let whole = none_from_all is_ascii_digit is_slash (search rules) (b ∷ bs) all in
     record {
       corner = ap are_indices (behind_none (b ∷ bs) whole) ∙ rw (bare, all) refl;
       used = all_before is_slash (b ∷ bs) whole;
@@ -109,8 +102,5 @@ pub plain_corner : (before : ℕ) (word : List ℕ) (k corner : ℕ)
     → Some corner ≡ cond (is_corner_word word) (Some (corner_of before word)) None
 plain_corner before word k corner is clamps = elim (cases_Bool (is_number word)) [
   | inr form ↦ cc (rw form at is)
-  | inl form ↦
-      let value : min (number_written word) (2 ^ 64 - 1) ≡ k = cc (rw form at is) in
-      let plain = plain_index word form in
-      rw (plain.corner, plain.used, clamps, ← value) (grind (arith, nat_tests, plain.bare, plain.positive))
+  | inl form ↦ search (rules, plain_index)
 ]

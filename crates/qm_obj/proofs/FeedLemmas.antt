@@ -2,7 +2,7 @@
 use Rattle.std.proofs.Common.{rules}
 use Rattle.std.proofs.Common.{Err, List, None, Option, Result, Some, arith, eqb, false, length, map, refl, true, ◌++◌}
 use Rattle.std.proofs.Common.{Ok, [], ap, sym, ℕ, ◌+◌, ◌-◌, ◌<◌, ◌∙◌, ◌∷◌, ◌≡◌, ◌≢◌, ◌≤◌, cond, take, ◌&&◌, ◌^◌, Bool}
-use Rattle.std.proofs.lemmas.Bool.{eqb-true, false≢true, lt-ltb, or_from, lt-leb, and_left, cases_Bool}
+use Rattle.std.proofs.lemmas.Bool.{eqb-true, false≢true, lt-leb, and_left, cases_Bool}
 use Rattle.std.proofs.lemmas.List.{append-nil, append_assoc, length-append, take_all}
 use Rattle.def_feed.specs.Kept.{KeptText, face_readings, kept_readings, logical_behind, soup_with, soup_with_lines}
 use Rattle.def_text.specs.Logical.{Logical, continues, is_hash, logical_lines, with_space}
@@ -35,10 +35,6 @@ is_nothing {xs = x ∷ xs} {n = n} is many = absurd (omega (arith, eqb-true n 0 
 
 pub is_something : (xs : Bytes) {n : ℕ} → false ≡ eqb n 0 → n ≡ length xs → 0 < length xs
 is_something xs is many = grind (arith)
-
--- The number of the logical line, where some physical line is joined.
-pub number_some : (joined : Bytes) (next begun : ℕ) → 0 < length joined → begun ≡ number_by joined next begun
-number_some joined next begun some = grind (arith)
 
 -- What is kept of a text.
 pub record IsSound (kept : KeptText) : Type 0 where
@@ -76,13 +72,11 @@ module _ {old : KeptText} (sound : IsSound old) where
   pub long_line : (line : Bytes) {number : ℕ} → number ≡ number_by old.joined old.next old.begun
       → 65536 < length old.joined + length line → RefusesLine old line (Limit Line number)
   long_line line {number} is long =
-      let limit : (one : Logical) → one.number ≡ number → length old.joined + length line ≤ one.size
-      → next_said old.positions old.faces one
-      ≡ Refused (Limit Line number) = λ one same size. rw (lt-ltb 65536 one.size (omega arith), same) refl in
+      let limit : (one : Logical) → one.number ≡ number → length old.joined + length line ≤ one.size → next_said
+      old.positions old.faces one ≡ Refused (Limit Line number) = search rules in
       let by_first : (lines : Lines) → BeginsWith (logical_behind old (line ∷ lines))
       (number_by old.joined old.next old.begun) (length old.joined + length line) → soup_with_lines old (line ∷ lines)
-      ≡ Err (Limit Line number) = λ lines first. rw first.are (stops_at _ _ _ first.line first.rest sound.fits.sizes
-      (limit first.line (first.number_is ∙ sym is) first.long)) in
+      ≡ Err (Limit Line number) = λ lines first. rw first.are (search (rules, stops_at)) in
       λ lines. by_first lines (begins_behind old line lines)
 
   -- A line that ends a logical line is read.
@@ -107,8 +101,7 @@ module _ {old : KeptText} (sound : IsSound old) where
   pub refused_line : (line : Bytes) {one : Logical} {fail : ObjFail}
       → ((lines : Lines) → logical_behind old (line ∷ lines) ≡ one ∷ logical_lines (old.next + 1) lines)
       → next_said old.positions old.faces one ≡ Refused fail → RefusesLine old line fail
-  refused_line line {one} are stops = λ lines.
-      rw (are lines) (stops_at _ _ _ one (logical_lines (old.next + 1) lines) sound.fits.sizes stops)
+  refused_line line {one} are stops = λ lines. rw (are lines) (search (rules, stops_at))
 
 -- No line comes behind: what is joined is the last one, where there is any.
 pub nothing_joined : (old : KeptText) → old.joined ≡ [] → soup_with_lines old [] ≡ soup_of (kept_readings old)
@@ -165,9 +158,7 @@ module _ {old : KeptText} (sound : IsSound old) where
       let by_first : (more : Bytes) → FirstLine (old.tail ++ bytes) ((old.tail ++ bytes) ++ more) → soup_with_lines old
       (lines_of ((old.tail ++ bytes) ++ more)) ≡ Err (Limit Line number) = λ more first. rw first.are (long_line sound
       first.line is (omega (arith, length-append old.tail bytes)) first.rest) in
-      λ more. rw (← append_assoc old.tail bytes more) (by_first more
-      (first_line (old.tail ++ bytes) more (list_any-append is_line_feed old.tail bytes ∙ or_from _ _ sound.unended off)
-      (omega (arith, length-append old.tail bytes))))
+      λ more. rw (← append_assoc old.tail bytes more) (search (rules, first_line, list_any-append, length-append))
 
   -- The end of the text is that of its last line.
   pub ended_tail : {line : Bytes} → 0 < length old.tail → line ≡ line_of old.tail
@@ -186,9 +177,8 @@ pub refused_behind : {a b : KeptText} {x : Bytes} (y : Bytes) (fail : ObjFail) �
 refused_behind {x = x} y fail first stops = λ more. rw (append_assoc x y more) (first.same (y ++ more) ∙ stops more)
 
 -- A refusal that is handed on: it says what follows from what it said.
-pub refused_as : {T : Type 0} {P Q : ObjFail → Type 0} (r : Result T ObjFail)
-    → IfErr r (λ fail. fail ≢ Memory → P fail) → ((fail : ObjFail) → P fail → Q fail)
-    → IfErr r (λ fail. fail ≢ Memory → Q fail)
+pub refused_as : {T : Type 0} {P Q : ObjFail → Type 0} (r : Result T ObjFail) → IfErr r (λ fail. fail ≢ Memory → P fail)
+    → ((fail : ObjFail) → P fail → Q fail) → IfErr r (λ fail. fail ≢ Memory → Q fail)
 refused_as (Ok x) is to = is
 refused_as (Err fail) is to = λ other. to fail (is other)
 
@@ -223,15 +213,13 @@ pub stands_still : {kept : KeptText} {refused : Option ObjFail} (piece : Bytes) 
     → StandsFor (record { kept = kept; refused = refused }) text
     → StandsFor (record { kept = kept; refused = refused }) (text ++ piece)
 stands_still {refused = None} piece some stands = absurd (false≢true (sym some))
-stands_still {refused = Some fail} piece some stands =
-    stands_next piece (λ more. refl) (λ none. absurd (cc none)) stands
+stands_still {refused = Some fail} piece some stands = stands_next _ (λ more. refl) (λ none. absurd (cc none)) stands
 
 -- What a feed that stands for a text answers at its end.
 pub stands_end : {kept : KeptText} {refused : Option ObjFail} {text : Bytes} {answer : Result FaceSet ObjFail}
     → refused ≡ None → soup_with kept [] ≡ answer
     → StandsFor (record { kept = kept; refused = refused }) text → soup_in text ≡ answer
-stands_end {refused = None} {text = text} none is stands =
-    rw append-nil at (sym (stands.answers [])) ∙ is
+stands_end {refused = None} {text = text} none is stands = rw append-nil at (sym (stands.answers [])) ∙ is
 stands_end {refused = Some fail} none is stands = absurd (cc none)
 
 pub stands_stopped : {kept : KeptText} {refused : Option ObjFail} {text : Bytes} {fail : ObjFail} → refused ≡ Some fail
@@ -289,13 +277,7 @@ module _ (line vertices : ℕ) (ws : Words) (few : vertices < 2 ^ 21) where
       (option_map_or Position (all_near slots) (Refused (Range line))) (Refused (Syntax line))
   vertex_read {count} {slots} read = elim (cases_Bool (is_position_count count)) [
     | inr off ↦ rw off (sym (vertex_syntax (and_left _ _ (ap is_position_count read.many ∙ off))))
-    | inl on ↦
-        let three : (n : ℕ) → is_position_count n ≡ true → 3 ≤ n = λ n on. grind (arith, nat_tests) in
-        let low = lt-leb (2 ^ 21) vertices few in
-        let slots_are = read.filled (three count on) in
-        let near = all_coordinates (take 3 ws) in
-        rw (low, read.many, on, read.passed, slots_are, near)
-        (by_far (list_any (λ w. is_far (rounded w)) (take 3 ws)))
+    | inl on ↦ search (rules, nat_tests, all_coordinates, by_far)
   ]
     where
       by_far : (far : Bool) → cond far (Refused (Range line)) (Position (map rounded (take 3 ws)))
@@ -329,6 +311,5 @@ module _ (line vertices faces : ℕ) (ws : Words) (few : faces < 2 ^ 20) where
         let four : count ≡ 4 = eqb-true count 4 on in
         let are : corners ≡ map (corner_of vertices) ws =
         read.filled (omega arith) ∙ ap (map (corner_of vertices)) (take_all 4 ws (omega (arith, read.many))) in
-        rw (lt-leb (2 ^ 20) faces few, read.passed, read.many, on, are, any_out vertices ws)
-        (grind (arith, all_in vertices ws))
+        search (rules, any_out, all_in)
   ]

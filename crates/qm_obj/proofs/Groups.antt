@@ -49,9 +49,8 @@ pub group_span : (lines : Lines) → length (first_group lines) ≡ span lines
 group_span lines = ap length (first_group_is lines) ∙ prefix_span lines
 
 -- The first logical line, and those behind its physical lines.
-pub logical_step : (number : ℕ) (line : List ℕ) (lines : Lines)
-    → logical_lines number (line ∷ lines) ≡ first_logical number (line ∷ lines)
-    ∷ logical_lines (number + span (line ∷ lines)) (drop (span (line ∷ lines)) (line ∷ lines))
+pub logical_step : (number : ℕ) (line : List ℕ) (lines : Lines) → logical_lines number (line ∷ lines) ≡ first_logical
+    number (line ∷ lines) ∷ logical_lines (number + span (line ∷ lines)) (drop (span (line ∷ lines)) (line ∷ lines))
 logical_step number line lines = search (rules, groups_step, prefix_span, prefix_size, prefix_text)
 
 -- The logical line with which a range of physical lines begins.
@@ -82,9 +81,8 @@ module _ (all : Lines) (i after : ℕ) (lt : i < after) (within : after ≤ leng
       (slice_range all (i + span (slice_range all i after)) after)
   next_lines =
       let step : logical_lines (i + 1) (slice_range all i after) ≡ first_logical (i + 1) (slice_range all i after)
-      ∷ logical_lines (i + 1 + span (slice_range all i after))
-      (drop (span (slice_range all i after)) (slice_range all i after)) =
-      rw cut (logical_step (i + 1) (get_or all i []) (slice_range all (i + 1) after)) in
+      ∷ logical_lines (i + 1 + span (slice_range all i after)) (drop (span (slice_range all i after))
+      (slice_range all i after)) = search (rules, cut, logical_step) in
       let n : i + 1 + span (slice_range all i after) ≡ i + span (slice_range all i after) + 1 = omega arith in
       cc (step, n, range_drop all i (span (slice_range all i after)) after span_within.1)
 
@@ -133,11 +131,7 @@ module _ {all : Lines} {first i after : ℕ} {p : Positions} {c : Faces} {l : Li
     pub at_refused : {fail : ObjFail} → Fits p c l → i < after → after ≤ length all
         → next_said p c (first_logical (i + 1) (slice_range all i after)) ≡ Refused fail
         → text_soup (first + 1) (slice_range all first after) ≡ Err fail
-    at_refused fits lt within stops =
-        let line = first_logical (i + 1) (slice_range all i after) in
-        let next = i + span (slice_range all i after) in
-        at.same ∙ rw (next_lines all i after lt within)
-        (stops_at p c l line (logical_lines (next + 1) (slice_range all next after)) fits.sizes stops)
+    at_refused fits lt within stops = at.same ∙ rw (next_lines all i after lt within) (search (rules, stops_at))
 
     -- All lines are read.
     pub at_end : after ≤ i → text_soup (first + 1) (slice_range all first after)

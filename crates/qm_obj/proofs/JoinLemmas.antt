@@ -1,7 +1,7 @@
 -- Physical lines text_ahead to logical lines.
 use Rattle.std.proofs.Common.{rules, List, arith, eqb, false, get_or, length, not, refl, take, true, ◌++◌, [], ap, sym}
 use Rattle.std.proofs.Common.{ℕ, ◌+◌, ◌-◌, ◌<◌, ◌∙◌, ◌∷◌, ◌≡◌, ◌≤◌}
-use Rattle.std.proofs.lemmas.Bool.{and_parts, false≢true, not-true, or_from, both_ways, false_from_ne_true}
+use Rattle.std.proofs.lemmas.Bool.{false≢true, or_from}
 use Rattle.std.proofs.lemmas.List.Folds.{list_any-append, list_any_at, list_any_none}
 use Rattle.std.proofs.lemmas.List.{append_assoc, length-append, length-take}
 use Rattle.qm_obj.specs.Lines.{first_logical, next_said, uncommented, line_as, Took}
@@ -68,10 +68,8 @@ cut_none (b ∷ bs) = grind (arith, cut_none bs)
 
 -- Nor has a line that goes on, with its space.
 pub space_none : (line : List ℕ) → continues line ≡ true → list_any is_hash (with_space line) ≡ false
-space_none line on = list_any-append is_hash (take (length line - 1) line) (32 ∷ [])
-    ∙ or_from _ _ (list_any_none is_hash _ (All-take (λ b. is_hash b ≡ false) (length line - 1) line
-    (λ k d l. false_from_ne_true _ (λ is.
-    both_ways _ (not-true _ (and_parts _ _ on).1) (list_any_at is_hash line k d l is))))) refl
+space_none line on = list_any-append _ (take (length line - 1) line) _ ∙ or_from _ _
+    (list_any_none _ _ (All-take (λ b. is_hash b ≡ false) (length line - 1) _ (search (rules, list_any_at)))) refl
 
 joined_none : (lines : Lines) → list_any is_hash (text_ahead lines) ≡ false
 joined_none [] = refl

@@ -101,9 +101,11 @@ few_behind v f (line ∷ lines) few none =
     let behind = readings_behind (v + cond (is_vertex_line line) 1 0) (f + cond (is_face_line line) 1 0) lines in
     let nones : (refusal_in said ≡ []) × (flat_map refusal_in behind ≡ []) = parts_none _ _ none in
     let one = counts_of _ _ _ _ said (reading_suits v f line) nones.0 in
-    let again : v + cond (is_vertex_line line) 1 0 + length (positions behind) ≤ 2 ^ 21 =
-    few_behind (v + cond (is_vertex_line line) 1 0) (f + cond (is_face_line line) 1 0) lines (omega arith) nones.1 in
-    omega (arith, length-append (position_in said) (positions behind))
+    search (
+      rules,
+      length-append,
+      few_behind (v + cond (is_vertex_line line) 1 0) (f + cond (is_face_line line) 1 0) lines (omega arith) nones.1,
+    )
 
 -- A refusal is the first one whatever the soup would be; where there is none behind, the soups may differ no more.
 same_first : {R L M : List ObjFail} {s t : FaceSet} → (R ≡ [] → L ≡ M) → (R ≡ [] → L ≡ [] → s ≡ t)
@@ -129,9 +131,7 @@ more_said {p = p} {c = c} {l = l} Passed said sizes took few =
 more_said {p = p} {c = c} {l = l} (Position place) said sizes took few = rw
     (took.position, took.face, took.line, append-nil c, append-nil l, append_assoc p (place ∷ []) (positions said)) refl
 more_said {p = p} {c = c} {l = l} (Face n corners) said sizes took few =
-    let ps : length p ≡ length (p ++ []) = omega (arith, length-append p []) in
-    rw (took.position, append-nil p, took.face, took.line) (face_more p c l n corners said sizes
-    (λ none. omega (arith, few none, ap length took.position, length-append p (positions said))))
+    rw (took.position, append-nil p, took.face, took.line) (search (rules, face_more, length-append))
 more_said (Refused fail) said sizes took few = absurd (cc took.accepted)
 
 -- How much longer the lists of what is kept are behind a line.
@@ -140,16 +140,13 @@ record Grown (p p' : Positions) (c c' : Faces) (l' : List ℕ) (v f : Bool) : Ty
   faces_are : length c' ≡ length c + cond f 1 0
   fits : Fits p' c' l'
 
-grown_by : {p p' : Positions} {c c' : Faces} {l l' : List ℕ} {v f : Bool} (said : Reading)
-    → Suits (length p) (length c) v f said → Fits p c l → Took p p' c c' l l' (with_clamped said)
-    → Grown p p' c c' l' v f
+grown_by : {p p' : Positions} {c c' : Faces} {l l' : List ℕ} {v f : Bool} (said : Reading) → Suits (length p) (length c)
+    v f said → Fits p c l → Took p p' c c' l l' (with_clamped said) → Grown p p' c c' l' v f
 grown_by {p} {c = c} {l = l} Passed (v, f) old took = grind (arith, append-nil p, append-nil c, append-nil l)
 grown_by {p} {c = c} {l = l} (Position place) (v, f, few) old took =
     grind (arith, length_push p place, append-nil c, append-nil l)
 grown_by {p} {c = c} {l = l} (Face n corners) (v, f, few, all) old took =
-    let more = length_push c (map clamped corners) in
-    let low = list_all-append (list_all (λ corner. ltb 0 corner)) c (map clamped corners ∷ []) in
-    grind (arith, more, length_push l n, append-nil p, low, positive_clamped corners all)
+    search (rules, list_all-append, length_push, positive_clamped)
 grown_by (Refused fail) suits old took = absurd (cc took.accepted)
 
 module _ {p p' : Positions} {c c' : Faces} {l l' : List ℕ} (line : Logical) (old : Fits p c l)
@@ -158,40 +155,27 @@ module _ {p p' : Positions} {c c' : Faces} {l l' : List ℕ} (line : Logical) (o
   grown = grown_by (reading (length p) (length c) line) (reading_suits (length p) (length c) line) old took
 
   -- What is kept with the lines behind it has the same soup.
-  pub line_taken : (rest : List Logical) → soup_of ((map (λ position. Position position) p ++ face_readings l c)
-      ++ readings_behind (length p) (length c) (line ∷ rest))
-      ≡ soup_of ((map (λ position. Position position) p' ++ face_readings l' c')
-      ++ readings_behind (length p') (length c') rest)
+  pub line_taken : (rest : List Logical) → soup_of ((map (λ position. Position position) p ++ face_readings l c) ++
+      readings_behind (length p) (length c) (line ∷ rest)) ≡ soup_of
+      ((map (λ position. Position position) p' ++ face_readings l' c') ++ readings_behind (length p') (length c') rest)
   line_taken rest =
       let behind = readings_behind (length p') (length c') rest in
       let counts : readings_behind (length p + cond (is_vertex_line line) 1 0)
       (length c + cond (is_face_line line) 1 0) rest ≡ behind = rw (grown.vertices, grown.faces_are) refl in
-      kept_soup_is p c l (readings_behind (length p) (length c) (line ∷ rest)) old.sizes
-      ∙ ap (λ (said : List Reading). kept_soup p c l (reading (length p) (length c) line ∷ said)) counts
-      ∙ more_said (reading (length p) (length c) line) behind old.sizes took
-      (few_behind (length p') (length c') rest grown.fits.few_vertices)
-      ∙ sym (kept_soup_is p' c' l' behind grown.fits.sizes)
+      kept_soup_is p c l _ old.sizes ∙ ap (λ (said : List Reading). kept_soup p c l (reading (length p) (length c) line
+      ∷ said)) counts ∙ more_said _ behind old.sizes took (few_behind _ _ rest grown.fits.few_vertices)
+      ∙ sym (kept_soup_is p' c' l' _ grown.fits.sizes)
 
 -- A position that is put behind the others, or a face with its line, or neither.
 pub fits_position : {p p' : Positions} {c : Faces} {l : List ℕ} (line : Logical) {place : List ℤ} (t : Bool)
     → Fits p c l → next_said p c line ≡ Position place → p' ≡ cond t (p ++ place ∷ []) p → Fits p' c l
-fits_position line true old is kept = (grown line old (rw is record {
-  accepted = refl;
-  position = kept;
-  face = sym (append-nil _);
-  line = sym (append-nil _);
-})).fits
+fits_position line true old is kept = (grown line old (search rules)).fits
 fits_position line false old is kept = rw kept old
 
 pub fits_face : {p : Positions} {c c' : Faces} {l l' : List ℕ} (line : Logical) {n : ℕ} {corners : List ℕ} (t : Bool)
     → Fits p c l → next_said p c line ≡ Face n corners → c' ≡ cond t (c ++ corners ∷ []) c
     → l' ≡ cond t (l ++ n ∷ []) l → Fits p c' l'
-fits_face line true old is kept numbered = (grown line old (rw is record {
-  accepted = refl;
-  position = sym (append-nil _);
-  face = kept;
-  line = numbered;
-})).fits
+fits_face line true old is kept numbered = (grown line old (search rules)).fits
 fits_face line false old is kept numbered = rw (kept, numbered) old
 
 -- A line that is refused is the first one.
@@ -219,9 +203,7 @@ pub kept_alone : (p : Positions) (c : Faces) (l : List ℕ) → length l ≡ len
     → soup_of (map (λ position. Position position) p ++ face_readings l c)
     ≡ late_or (first_late (length p) c l) (face_set p c)
 kept_alone p c l sizes = ap soup_of (sym (append-nil (map (λ position. Position position) p ++ face_readings l c)))
-    ∙ kept_soup_is p c l [] sizes
-    ∙ rw (append-nil p, append-nil c, append-nil (flat_map (late_in (length p)) (face_readings l c)))
-    (late_first (length p) c l (face_set p c))
+    ∙ kept_soup_is p c l [] sizes ∙ rw (append-nil p, append-nil c, append-nil _) (late_first _ c l _)
 
 module _ {p : Positions} {c : Faces} {l : List ℕ} (old : Fits p c l) where
   pub finished_soup : (r : Result FaceSet ObjFail)
@@ -241,8 +223,7 @@ module _ {p : Positions} {c : Faces} {l : List ℕ} (old : Fits p c l) where
       → IfErr r (λ fail. fail ≢ Memory → soup_of (map (λ position. Position position) p ++ face_readings l c)
       ≡ Err fail)
   finished_refused (Ok s) is = is
-  finished_refused (Err fail) is = λ other.
-      kept_alone p c l old.sizes ∙ by_late (first_late (length p) c l) (is other)
+  finished_refused (Err fail) is = λ other. search (rules, kept_alone)
     where
       by_late : (late : Option ℕ) → IsLate fail late → late_or late (face_set p c) ≡ Err fail
       by_late None is = absurd is

@@ -2,7 +2,7 @@
 use Rattle.std.proofs.Common.{rules, Bool, List, Ok, add-one, arith, false, get_or, length, refl, true, zero, ◌&&◌}
 use Rattle.std.proofs.Common.{◌++◌, [], ap, eqb, ltb, map, not, pos, suc, sym, ℕ, ℤ, ◌+◌, ◌-◌, ◌<◌, ◌^◌, ◌∙◌, ◌∷◌, ◌≡◌}
 use Rattle.std.proofs.Common.{◌≤◌, None}
-use Rattle.std.proofs.lemmas.Bool.{and_from, and_parts, eqb-true, ltb-false, ltb-true, not-true, le-ltb, ne_eqb, lt-leb}
+use Rattle.std.proofs.lemmas.Bool.{and_from, and_parts, eqb-true, ltb-false, ltb-true, not-true, le-ltb}
 use Rattle.std.proofs.lemmas.List.{get_or-map, get_or_default, length-map, same_lists, take_all}
 use Rattle.std.proofs.lemmas.List.Elements.{filter-append, All-map}
 use Rattle.std.proofs.lemmas.List.Folds.{flat_map-map, list_all-map, list_any_none}
@@ -15,7 +15,7 @@ use Rattle.def_text.specs.Text.{face_set, line_vertex, numbers_to, position_of, 
 use Rattle.def_text.specs.declared.reading.Reading.TheVariants.{Face, Position}
 use Rattle.qm_obj.proofs.LawText.{IsLine, decimal_word, line_words, lines_split, logical_plain, micro_word, plain_lines}
 use Rattle.qm_obj.proofs.LawText.{line_tame, IsWord, line_text}
-use Rattle.qm_obj.proofs.SoupLemmas.{are_below, length-numbers_to, numbers_at, same_soups, used_renumbered}
+use Rattle.qm_obj.proofs.SoupLemmas.{are_below, length-numbers_to, numbers_at, used_renumbered}
 use Rattle.std.proofs.{lemmas.List.Concat.flat_map-append, lemmas.Fmt.decimal_nonempty, lemmas.Bool.Decides.nat_tests}
 use Rattle.std.proofs.{lemmas.List.FromFn.length-range_with_len, Common.map-id}
 use Rattle.std.specs.{List.flat_map, List.list_all, List.filter, List.list_any, List.range_with_len, Prelude.decimal}
@@ -23,7 +23,7 @@ use Rattle.qm_dec.proofs.{ReadBack.canonical_law, ReadBack.decimal_digits, ReadB
 use Rattle.qm_obj.proofs.{TailLemmas.passes_at, TailLemmas.all_from, CornerLemmas.plain_index, KeptLemmas.kept_alone}
 use Rattle.qm_obj.proofs.{KeptLemmas.nothing_kept, SuitLemmas.reading_suits}
 use Rattle.{std.specs.Prelude.unsigned_abs, def_feed.specs.Kept.face_readings, def_feed.specs.Kept.readings_behind}
-use Rattle.{qm_obj.specs.Kept.first_late, qm_scan.proofs.Numbers.number_all, def_mesh.specs.Vertices.is_used}
+use Rattle.{qm_obj.specs.Kept.first_late, qm_scan.proofs.Numbers.number_all}
 use Rattle.{def_mesh.specs.Faces.Faces, def_io.specs.Bytes.Lines, def_io.specs.Lines.lines_of}
 
 -- What holds at each position of two lists holds at each position of both together, and of a map what holds of each
@@ -45,8 +45,7 @@ module _ {X Y : Type 0} (p : X → Bool) (f : X → Y) (xs : List X) (all : list
   all_images q to = list_all-map q f xs ∙ all_from p (λ x. q (f x)) to xs all
 
   no_image : (q : Y → Bool) → ((x : X) → p x ≡ true → q (f x) ≡ false) → list_any q (map f xs) ≡ false
-  no_image q to =
-      list_any_none q (map f xs) (All-map (λ y. q y ≡ false) f xs
+  no_image q to = list_any_none q _ (All-map (λ y. q y ≡ false) f xs
       (λ k d l. to (get_or xs k d) (passes_at p xs k d all l)))
 
 images_are : {X Y Z : Type 0} (p : X → Bool) (f : X → Y) (g : Y → Z) (h : X → Z)
@@ -67,11 +66,6 @@ face_line face = line_text 102 (map vertex_word face)
 abbrev pub canonical_lines : FaceSet → Lines
 canonical_lines s = map position_line s.pos ++ map face_line s.faces
 
-ended : {X : Type 0} (text line : X → List ℕ) → ((x : X) → text x ≡ line x ++ 10 ∷ []) → (xs : List X)
-    → flat_map text xs ≡ flat_map (λ l. l ++ 10 ∷ []) (map line xs)
-ended text line same [] = refl
-ended text line same (x ∷ xs) = rw (same x, ended text line same xs) refl
-
 pub text_lines : (s : FaceSet) → canonical_text s ≡ flat_map (λ l. l ++ 10 ∷ []) (canonical_lines s)
 text_lines s = search (rules, flat_map-map, flat_map-append)
 
@@ -82,8 +76,7 @@ near position is k d l = search (rules, passes_at)
 
 position_words : (position : List ℤ) → is_position position ≡ true → (k : ℕ) → k < length (map micro_text position)
     → IsWord (get_or (map micro_text position) k [])
-position_words position is = each_map IsWord micro_text position (pos 0) []
-    (λ k l. micro_word (get_or position k (pos 0)) (near position is k (pos 0) l))
+position_words position is = each_map IsWord micro_text position (pos 0) [] (search (rules, micro_word, near))
 
 abbrev plain_line : ℕ → List ℕ → Logical
 plain_line n l = record { number = n; size = length l; text = l }
@@ -96,8 +89,7 @@ said_by_words vertices faces n is said = rw (le-ltb _ _ is.short) said
 pub position_line_is : (position : List ℤ) → is_position position ≡ true → IsLine (position_line position)
 position_line_is position is =
     let three : length position ≡ 3 = eqb-true _ _ (and_parts _ _ is).0 in
-    line_tame 118 (map micro_text position) refl (omega (arith, length-map position micro_text))
-    (position_words position is)
+    line_tame _ _ refl (omega (arith, length-map position micro_text)) (position_words _ is)
 
 position_said : (vertices faces n : ℕ) (position : List ℤ) → vertices < 2 ^ 21 → is_position position ≡ true
     → reading vertices faces (plain_line n (position_line position)) ≡ Position position
@@ -109,14 +101,12 @@ position_said vertices faces n position few is =
     λ z near. canonical_law z (ltb-false _ _ (not-true _ near)) in
     let right : (is_position_count (length ws) && list_all is_decimal ws) ≡ true = and_from _ _
     (ap is_position_count three) (all_images _ micro_text position parts.1 is_decimal (λ z near. (law z near).0)) in
-    let near : list_any (λ w. is_far (rounded w)) ws ≡ false = no_image _ micro_text position parts.1 _
-    (λ z near. ap is_far (law z near).1 ∙ not-true _ near) in
+    let near : list_any (λ w. is_far (rounded w)) ws ≡ false = search (rules, no_image) in
     let same : map rounded ws ≡ position =
     images_are _ micro_text rounded (λ z. z) (λ z near. (law z near).1) position parts.1 ∙ map-id position in
     let said = line_words 118 ws refl (position_words position is) in
     let first = take_all 3 ws (omega arith) in
-    said_by_words vertices faces n (position_line_is position is)
-    (rw (said, lt-leb (2 ^ 21) vertices few, right, first, near, same) refl)
+    said_by_words vertices faces n (position_line_is position is) (search rules)
 
 -- The words of a face.
 record NamesVertex (vertices : ℕ) (word : List ℕ) (n : ℕ) : Type 0 where
@@ -126,8 +116,7 @@ record NamesVertex (vertices : ℕ) (word : List ℕ) (n : ℕ) : Type 0 where
 
 names_vertex : (vertices n : ℕ) → 0 < n → n < 2 ^ 64 → NamesVertex vertices (decimal n) n
 names_vertex vertices n some small =
-    let long : eqb (length (decimal n)) 0 ≡ false =
-    ne_eqb _ _ (λ (e : length (decimal n) ≡ 0). omega (arith, decimal_nonempty n small)) in
+    let long : eqb (length (decimal n)) 0 ≡ false = search (rules, decimal_nonempty) in
     let plain = plain_index (decimal n) (number_all (decimal n) ∙ rw long (decimal_digits n small)) in
     search (rules, decimal_number)
 
@@ -141,8 +130,7 @@ pub face_line_is : (vertices : ℕ) (face : List ℕ) → vertices ≤ 2 ^ 21 �
     ≡ true → IsLine (face_line face)
 face_line_is vertices face few is all =
     let four : length face ≡ 4 = eqb-true _ _ is in
-    line_tame 102 (map vertex_word face) refl (omega (arith, length-map face vertex_word))
-    (face_words vertices face few all)
+    line_tame _ _ refl (omega (arith, length-map face vertex_word)) (face_words _ _ few all)
 
 face_said : (vertices faces n : ℕ) (face : List ℕ) → vertices ≤ 2 ^ 21 → faces < 2 ^ 20 → is_quad face ≡ true
     → are_below vertices face ≡ true
@@ -151,14 +139,12 @@ face_said vertices faces n face few room is all =
     let ws = map vertex_word face in
     let four : eqb (length ws) 4 ≡ true = ap (λ m. eqb m 4) (length-map face vertex_word) ∙ is in
     let law : (v : ℕ) → ltb v vertices ≡ true → NamesVertex vertices (vertex_word v) (v + 1) = λ v low.
-    let low = ltb-true v vertices low in names_vertex vertices (v + 1) (omega arith) (omega arith) in
+    let low = ltb-true v vertices low in names_vertex _ _ (omega arith) (omega arith) in
     let corners = all_images _ vertex_word face all is_corner_word (λ v low. (law v low).form) in
     let inside = no_image _ vertex_word face all (λ w. is_out vertices (used_index w)) (λ v low. (law v low).inside) in
-    let same = images_are _ vertex_word (λ w. resolved vertices (used_index w)) (λ v. v + 1)
-    (λ v low. (law v low).names) face all in
-    let said = line_words 102 ws refl (face_words vertices face few all) in
-    said_by_words vertices faces n (face_line_is vertices face few is all)
-    (rw (said, lt-leb (2 ^ 20) faces room, corners, four, inside, same) refl)
+    let same = images_are _ vertex_word (λ w. resolved vertices (used_index w)) _ (λ v low. (law v low).names) _ all in
+    let said = line_words 102 ws refl (face_words _ _ few all) in
+    said_by_words _ _ n (face_line_is _ _ few is all) (search rules)
 
 -- What the lines of all positions say, with lines behind them, and what those of all faces say.
 positions_are_said : (v f n : ℕ) (ps : Positions) (ls : Lines) → list_all is_position ps ≡ true → v + length ps ≤ 2 ^ 21
@@ -206,29 +192,23 @@ keeps_all p (suc n) each =
 
 all_used_to : (s : FaceSet) → IsSoup s → (k : ℕ) → k ≤ length s.pos
     → used_to (map (λ f. map (λ v. v + 1) f) s.faces) k ≡ numbers_to k
-all_used_to s soup k le = keeps_all (is_used (map (λ f. map (λ v. v + 1) f) s.faces)) k
-    (λ j l. used_renumbered (λ v. v + 1) j s.faces (soup.used j (omega arith)))
+all_used_to s soup k le = keeps_all _ k (λ j l. used_renumbered _ j s.faces (soup.used j (omega arith)))
 
 positions_back : (ps : Positions) → map (position_of ps) (numbers_to (length ps)) ≡ ps
 positions_back ps =
-    let long = length-map (numbers_to (length ps)) (position_of ps) ∙ length-numbers_to (length ps) in
+    let long = length-map (numbers_to (length ps)) (position_of ps) ∙ length-numbers_to _ in
     same_lists (map (position_of ps) (numbers_to (length ps))) ps long (λ k d l.
     let there : k < length ps = omega arith in
     let e : k + 1 - 1 ≡ k = omega arith in
-    get_or-map (position_of ps) (numbers_to (length ps)) k 0 d (omega (arith, length-numbers_to (length ps)))
-    ∙ ap (position_of ps) (numbers_at (length ps) k there) ∙ ap (λ j. get_or ps j []) e
-    ∙ get_or_default ps k [] d there)
+    get_or-map _ _ k 0 d (omega (arith, length-numbers_to (length ps))) ∙ ap (position_of ps) (numbers_at _ k there)
+    ∙ ap (λ j. get_or ps j []) e ∙ get_or_default ps k [] d there)
 
 faces_back : (fs : Faces) (n : ℕ) → ((k : ℕ) → k ≤ n → used_to fs k ≡ numbers_to k) → (some : Faces)
     → list_all (are_below n) some ≡ true
     → map (λ corners. map (line_vertex fs) corners) (map (λ f. map (λ v. v + 1) f) some) ≡ some
 faces_back fs n used some all =
-    let corner : (v : ℕ) → ltb v n ≡ true → line_vertex fs (v + 1) ≡ v = λ v low.
-    let e : v + 1 - 1 ≡ v = omega arith in
-    rw (e, used v (omega (arith, ltb-true v n low))) (length-numbers_to v) in
-    images_are (are_below n) (λ f. map (λ v. v + 1) f) (λ corners. map (line_vertex fs) corners) (λ f. f)
-    (λ f below. images_are _ (λ v. v + 1) (line_vertex fs) (λ v. v) corner f below ∙ map-id f) some all
-    ∙ map-id some
+    let corner : (v : ℕ) → ltb v n ≡ true → line_vertex fs (v + 1) ≡ v = search (rules, length-numbers_to) in
+    images_are _ _ _ _ (λ f below. images_are _ _ _ _ corner f below ∙ map-id f) _ all ∙ map-id some
 
 -- The canonical text of a soup reads back.
 pub text_back : ReadsBack
@@ -250,12 +230,8 @@ text_back s is =
     let said = positions_are_said 0 0 1 s.pos fs is.positions (omega arith) in
     let behind = faces_said (length s.pos) 0 n s.faces is.few_vertices is.quads soup.in_range (omega arith) in
     let used = all_used_to s soup in
-    let names = used (length s.pos) (omega arith) in
     let at_v : 0 + length s.pos ≡ length s.pos = omega arith in
-    let kept : soup_of (readings_behind 0 0 (plain_lines 1 lines)) ≡ Ok (face_set s.pos named) =
-    rw (said, at_v, behind) (kept_alone s.pos named count sizes
-    ∙ rw (not_late (length s.pos) s.faces count soup.in_range) refl) in
+    let kept : soup_of (readings_behind 0 0 (plain_lines 1 lines)) ≡ Ok (face_set s.pos named) = rw (said, at_v, behind)
+    (kept_alone s.pos named count sizes ∙ rw (not_late (length s.pos) s.faces count soup.in_range) refl) in
     ap (text_soup 1) cut ∙ ap (λ (ls : List Logical). soup_of (readings [] ls)) (logical_plain 1 lines each)
-    ∙ sym (nothing_kept (plain_lines 1 lines)) ∙ kept
-    ∙ ap Ok (same_soups (ap (map (position_of s.pos)) names ∙ positions_back s.pos)
-    (faces_back named (length s.pos) used s.faces soup.in_range) names)
+    ∙ sym (nothing_kept (plain_lines 1 lines)) ∙ kept ∙ ap Ok (search (rules, positions_back, faces_back))

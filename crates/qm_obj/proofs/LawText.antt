@@ -1,18 +1,17 @@
 -- The lines and the words of a canonical text.
 use Rattle.std.proofs.Common.{rules, Bool, List, arith, cond, eqb, false, get_or, length, refl, true, ◌&&◌, ◌++◌, []}
 use Rattle.std.proofs.Common.{ap, leb, not, suc, ℕ, ◌%◌, ◌*◌, ◌+◌, ◌-◌, ◌/◌, ◌<◌, ◌^◌, ◌∙◌, ◌∷◌, ◌≡◌, ◌≤◌, ℤ}
-use Rattle.std.proofs.lemmas.List.{append_assoc, length-append, Elements.All-drop, Elements.All-take}
-use Rattle.std.proofs.lemmas.Bool.{and_from, and_parts}
-use Rattle.std.specs.Prelude.{decimal, unsigned_abs}
-use Rattle.def_text.specs.Canonical.{fraction_text, micro_text, minus_text, six_digits, without_zeros}
-use Rattle.qm_obj.proofs.TailLemmas.{all_before, all_from, lines_fed, none_from_all, passes_at, same_last}
+use Rattle.std.proofs.{lemmas.List.append_assoc, lemmas.List.length-append, lemmas.List.Elements.All-drop}
+use Rattle.std.proofs.{lemmas.List.Elements.All-take, lemmas.Bool.and_from, lemmas.Bool.and_parts}
 use Rattle.std.proofs.{lemmas.List.Folds.list_all-append, lemmas.Bool.Decides.nat_tests, lemmas.Fmt.decimal_nonempty}
-use Rattle.std.proofs.{lemmas.Fmt.length-decimal-le, lemmas.List.Sums.AllPass-from_list_all}
-use Rattle.std.specs.{List.flat_map, List.list_all, List.suffix_len, Char.is_ascii_digit}
-use Rattle.def_text.specs.{Logical.Logical, Logical.continues, Logical.is_hash, Logical.logical_lines, Words.ends_word}
-use Rattle.{std.proofs.lemmas.List.Sums.list_all-from_AllPass, def_io.specs.Bytes.Lines, def_io.specs.Lines.lines_of}
-use Rattle.{def_text.specs.Words.is_blank, def_text.specs.Words.words, def_text.specs.Types.Words}
-use Rattle.{qm_dec.proofs.ReadBack.decimal_digits, qm_obj.proofs.Groups.logical_step}
+use Rattle.std.specs.{Prelude.decimal, Prelude.unsigned_abs, List.flat_map, List.list_all, List.suffix_len}
+use Rattle.def_text.specs.Canonical.{fraction_text, micro_text, six_digits, without_zeros}
+use Rattle.qm_obj.proofs.TailLemmas.{all_before, all_from, lines_fed, none_from_all, passes_at, same_last}
+use Rattle.std.proofs.lemmas.List.Sums.{AllPass-from_list_all, list_all-from_AllPass}
+use Rattle.def_text.specs.Logical.{Logical, continues, logical_lines}
+use Rattle.def_text.specs.Words.{ends_word, is_blank, words}
+use Rattle.{std.proofs.lemmas.Fmt.length-decimal-le, std.specs.Char.is_ascii_digit, def_io.specs.Bytes.Lines}
+use Rattle.{def_io.specs.Lines.lines_of, def_text.specs.Types.Words, qm_dec.proofs.ReadBack.decimal_digits}
 
 -- The bytes of words: from the minus to the digits.
 abbrev pub is_plain : ℕ → Bool
@@ -57,8 +56,6 @@ fraction_plain n small =
 
 pub micro_word : (z : ℤ) → unsigned_abs z ≤ 999_999_999_999_999 → IsWord (micro_text z)
 micro_word z near =
-    let minus = minus_text z in
-    let digits = decimal (unsigned_abs z / 10 ^ 6) in
     let whole = decimal_word (unsigned_abs z / 10 ^ 6) (omega arith) in
     let twenty = length-decimal-le 20 (unsigned_abs z / 10 ^ 6) (omega arith) (omega arith) (omega arith) in
     let behind = fraction_plain (unsigned_abs z % 10 ^ 6) (omega arith) in search (rules, length-append, all_both)
@@ -122,9 +119,7 @@ pub lines_back : (ls : Lines) → ((k : ℕ) → k < length ls → list_all is_i
 lines_back [] each = refl
 lines_back (l ∷ ls) each =
     let first : list_all is_inside l ≡ true = each 0 (omega arith) in
-    let off = none_from_all is_inside (λ b. eqb b 10) (λ b is. grind (arith, nat_tests)) l first in
-    let bare = none_from_all is_inside (λ b. eqb b 13) (λ b is. grind (arith, nat_tests)) l first in
-    search (rules, append_assoc, lines_fed, same_last, lines_back ls (λ k m. each (suc k) (omega arith)))
+    search (rules, none_from_all, append_assoc, lines_fed, same_last, lines_back ls (λ k m. each (suc k) (omega arith)))
 
 -- The lines of a text of tame lines.
 pub lines_split : (ls : Lines) → ((k : ℕ) → k < length ls → IsLine (get_or ls k []))
@@ -146,6 +141,10 @@ pub logical_plain : (number : ℕ) (ls : Lines) → ((k : ℕ) → k < length ls
 logical_plain number [] each = refl
 logical_plain number (l ∷ ls) each =
     let first : IsLine l = each 0 (omega arith) in
-    let bare = none_from_all is_tame is_hash (λ b is. grind (arith, nat_tests)) l first.tame in
-    let again = logical_plain (number + 1) ls (λ k m. each (suc k) (omega arith)) in
-    logical_step number l ls ∙ rw (no_continuation l first.tame, all_before is_hash l bare, again) refl
+    search (
+      rules,
+      none_from_all,
+      no_continuation,
+      all_before,
+      logical_plain (number + 1) ls (λ k m. each (suc k) (omega arith)),
+    )

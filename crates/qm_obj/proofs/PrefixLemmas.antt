@@ -14,30 +14,24 @@ pub joined_some : (number : ℕ) (prefix : Bytes) (lines : List Logical) → 0 <
     → with_joined number prefix lines ≡ with_front number prefix lines
 joined_some number prefix lines some = grind (arith)
 
--- Text in front of text in front.
-prefix_more : (number other : ℕ) (prefix more : Bytes) (lines : List Logical)
-    → with_front number prefix (with_front other more lines) ≡ with_front number (prefix ++ more) lines
-prefix_more number other prefix more = search (rules, length-append, append_assoc)
-
 -- A line that goes on stands in front of the logical line behind it.
 pub logical_goes_on : (number : ℕ) (line : Bytes) (lines : Lines) → continues line ≡ true
     → logical_lines number (line ∷ lines) ≡ with_front number (with_space line) (logical_lines (number + 1) lines)
 logical_goes_on number line [] on =
     let none : length line + 0 ≡ length (with_space line) = omega (arith, length-with_space line on) in
-    logical_step number line [] ∙ rw (on, none, append-nil (with_space line)) refl
+    logical_step number _ [] ∙ rw (on, none, append-nil (with_space line)) refl
 logical_goes_on number line (next ∷ lines) on =
     let n : number + (1 + span (next ∷ lines)) ≡ number + 1 + span (next ∷ lines) = omega arith in
     let e : 1 + span (next ∷ lines) ≡ suc (span (next ∷ lines)) = omega arith in
-    rw (logical_step (number + 1) next lines, length-with_space line on, ← n) (logical_step number line (next ∷ lines)
-    ∙ rw (on, e) refl)
+    rw (logical_step _ next _, length-with_space line on, ← n) (logical_step _ line (next ∷ lines) ∙ rw (on, e) refl)
 
 -- A line that does not go on is a logical line.
 pub logical_ends : (number : ℕ) (line : Bytes) (lines : Lines) → continues line ≡ false
-    → logical_lines number (line ∷ lines)
-    ≡ record {
+    → logical_lines number (line ∷ lines) ≡ record {
       number = number;
       size = length line;
-      text = before_first is_hash line;
+      text = before_first is_hash
+          line;
     } ∷ logical_lines (number + 1) lines
 logical_ends number line lines off = logical_step number line lines ∙ grind (arith)
 
@@ -54,9 +48,8 @@ begins_line : (number : ℕ) (line : Bytes) (lines : Lines)
 begins_line number line lines = search (rules, logical_step)
 
 -- The logical line to which a physical line belongs is at least as long as what is joined and that line.
-pub begins_behind : (kept : KeptText) (line : Bytes) (lines : Lines)
-    → BeginsWith (logical_behind kept (line ∷ lines)) (number_by kept.joined kept.next kept.begun)
-    (length kept.joined + length line)
+pub begins_behind : (kept : KeptText) (line : Bytes) (lines : Lines) → BeginsWith (logical_behind kept (line ∷ lines))
+    (number_by kept.joined kept.next kept.begun) (length kept.joined + length line)
 begins_behind kept line lines = by_joined kept.joined
   where
     by_joined : (prefix : Bytes) → BeginsWith (with_joined kept.begun prefix (logical_lines kept.next (line ∷ lines)))
@@ -68,7 +61,7 @@ begins_behind kept line lines = by_joined kept.joined
 pub behind_held : (kept : KeptText) (line : Bytes) (lines : Lines) → continues line ≡ true
     → logical_behind kept (line ∷ lines) ≡ with_joined (number_by kept.joined kept.next kept.begun)
     (kept.joined ++ with_space line) (logical_lines (kept.next + 1) lines)
-behind_held kept line lines on = search (rules, logical_goes_on, prefix_more)
+behind_held kept line lines on = search (rules, logical_goes_on, length-append, append_assoc)
 
 -- A line that ends, alone and behind what is joined.
 pub behind_alone : (kept : KeptText) (line : Bytes) → continues line ≡ false → kept.joined ≡ [] → (lines : Lines)
@@ -76,9 +69,8 @@ pub behind_alone : (kept : KeptText) (line : Bytes) → continues line ≡ false
 behind_alone kept line off none lines = rw (none, uncommented_is line) (logical_ends kept.next line lines off)
 
 pub behind_joined : (kept : KeptText) (line : Bytes) → continues line ≡ false → 0 < length kept.joined
-    → list_any is_hash kept.joined ≡ false → (lines : Lines) → logical_behind kept (line ∷ lines)
-    ≡ line_as kept.begun (length kept.joined + length line) (kept.joined ++ before_first is_hash line)
-    ∷ logical_lines (kept.next + 1) lines
+    → list_any is_hash kept.joined ≡ false → (lines : Lines) → logical_behind kept (line ∷ lines) ≡ line_as kept.begun
+    (length kept.joined + length line) (kept.joined ++ before_first is_hash line) ∷ logical_lines (kept.next + 1) lines
 behind_joined kept line off some bare lines =
     let behind = before_first is_hash line in
     let none : list_any is_hash (kept.joined ++ behind) ≡ false =

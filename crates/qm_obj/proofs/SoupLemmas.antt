@@ -64,7 +64,6 @@ rank_at faces (suc n) v lt = elim (cases_Bool (is_used faces (suc n))) [
       rw same (rank_at faces n v (rw same at lt))
   | inl on ↦
       let more : used_to faces (suc n) ≡ used_to faces n ++ suc n ∷ [] = used_more faces n ∙ rw on refl in
-      let e : suc n - 1 ≡ n = omega arith in
       rw more (elim (cases_lt v (length (used_to faces n))) [
         | inl below ↦ rw (get_or_append_left (used_to faces n) (suc n ∷ []) 0 v below) (rank_at faces n v below)
         | inr at ↦ search (rules, length_push, get_or_push)
@@ -76,17 +75,14 @@ below_all : (faces : Faces) (n : ℕ) → list_all (are_numbers n) faces ≡ tru
     → list_all (are_below (length (used_to faces n))) (map (λ corners. map (line_vertex faces) corners) faces) ≡ true
 below_all faces n known =
     let count = length (used_to faces n) in
-    list_all-map (are_below count) (λ corners. map (line_vertex faces) corners) faces
-    ∙ list_all-from_AllPass (λ x. are_below count (map (line_vertex faces) x)) faces (λ f d l.
+    list_all-map (are_below count) _ faces
+    ∙ list_all-from_AllPass (λ x. are_below count (map (line_vertex faces) x)) _ (λ f d l.
     let face = get_or faces f d in
-    list_all-map (λ x. ltb x count) (line_vertex faces) face
-    ∙ list_all-from_AllPass (λ x. ltb (line_vertex faces x) count) face (λ j e m.
+    list_all-map (λ x. ltb x count) _ face ∙ list_all-from_AllPass _ face (λ j e m.
     let corner = get_or face j e in
-    let parts = and_parts (ltb 0 corner) (leb corner n)
-    (passes_at (λ x. ltb 0 x && leb x n) face j e (passes_at (are_numbers n) faces f d known l) m) in
-    let used = list_any_at (λ x. list_any (λ c. eqb c corner) x) faces f d l
-    (list_any_at (λ c. eqb c corner) face j e m (eq-eqb _ _ refl)) in
-    lt-ltb _ _ (rank_below faces n corner (ltb-true 0 corner parts.0) (leb-true corner n parts.1) used)))
+    let parts = and_parts (ltb 0 corner) (leb corner n) (passes_at _ face j e (passes_at _ faces f d known l) m) in
+    let used = list_any_at _ faces f d l (list_any_at _ face j e m (eq-eqb _ _ refl)) in
+    lt-ltb _ _ (rank_below faces n _ (ltb-true 0 corner parts.0) (leb-true corner n parts.1) used)))
 
 -- A used number is used after renumbering.
 pub used_renumbered : (f : ℕ → ℕ) (m : ℕ) (faces : Faces) → is_used faces m ≡ true
@@ -102,14 +98,12 @@ used_renumbered f m (x ∷ xs) is = grind (arith, along x, used_renumbered f m x
 pub face_set_is_soup : (positions : Positions) (faces : Faces)
     → IsTrue (list_all (are_numbers (length positions)) faces) → IsSoup (face_set positions faces)
 face_set_is_soup positions faces known = record {
-  in_range = rw (length-map (used_to faces (length positions)) (position_of positions))
-      (below_all faces (length positions) known);
+  in_range = rw (length-map (used_to faces (length positions)) (position_of positions)) (below_all faces _ known);
   used = λ v l.
       let lt : v < length (used_to faces (length positions)) =
       rw (length-map (used_to faces (length positions)) (position_of positions)) at l in
-      let is = filter_passes (is_used faces) (numbers_to (length positions)) v 0 lt in
-      rw (rank_at faces (length positions) v lt) at
-      (used_renumbered (line_vertex faces) (get_or (used_to faces (length positions)) v 0) faces is);
+      let is = filter_passes (is_used faces) _ v 0 lt in
+      rw (rank_at _ _ v lt) at (used_renumbered (line_vertex faces) _ faces is);
   named = sym (length-map (used_to faces (length positions)) (position_of positions));
   increasing = search (rules, IsStrictlyIncreasing-filter, numbers_rise);
 }
@@ -139,28 +133,20 @@ few_pos positions faces =
 pub same_faces : (positions : Positions) (faces : Faces) → length (face_set positions faces).faces ≡ length faces
 same_faces positions faces = length-map faces (λ corners. map (line_vertex faces) corners)
 
--- Soups of the same parts are the same.
-pub same_soups : {s t : FaceSet} → s.pos ≡ t.pos → s.faces ≡ t.faces → s.names ≡ t.names → s ≡ t
-same_soups p q r = λ i. record { pos = p i; faces = q i; names = r i }
-
 -- The positions that some face names, and the numbers of the vertices that they become.
-
-pub chosen_more : (marks : List Bool) (k : ℕ) → chosen marks (k + 1) ≡ chosen marks k
-    ++ cond (get_or marks k false) ((k + 1) ∷ []) []
-chosen_more marks k = search (rules, filter-append)
 
 -- One position more, that is kept.
 pub kept_mark : {marks : List Bool} {old positions : Positions} {names : List ℕ} {k : ℕ} → k < length marks
     → get_or marks k false ≡ true → IsKept marks old positions names k
     → IsKept marks old (set positions (length names) (get_or positions k [])) (names ++ (k + 1) ∷ []) (k + 1)
 kept_mark {marks} {old} {positions} {names} {k} there on kept =
-    search (rules, chosen_more, length_push, at_back, take_more_set, map_push, back_more)
+    search (rules, filter-append, length_push, at_back, take_more_set, map_push, back_more)
 
 -- One position more, that is dropped.
 pub kept_skip : {marks : List Bool} {old positions : Positions} {names : List ℕ} {k : ℕ} → get_or marks k false ≡ false
     → IsKept marks old positions names k → IsKept marks old positions names (k + 1)
 kept_skip {marks} {old} {positions} {k = k} off kept =
-    grind (arith, chosen_more marks k, append-nil (chosen marks k), drop_more_same positions old k)
+    grind (arith, filter-append, append-nil (chosen marks k), drop_more_same positions old k)
 
 -- Marked are the used.
 pub chosen_used : (faces : Faces) (n : ℕ) (marks : List Bool) → IsMarked faces n marks → (k : ℕ) → k ≤ n
@@ -194,7 +180,5 @@ made_of positions faces marks made vertices marked known counted names pos renum
     let all = ap (chosen marks) marked.size ∙ chosen_used faces count marks marked count (omega arith) in
     let one : (k : ℕ) → (ltb 0 k && leb k count) ≡ true → get_or vertices (k - 1) 0 ≡ line_vertex faces k = λ k is.
     let b = and_parts (ltb 0 k) _ is in let some = ltb-true 0 k b.0 in let le = leb-true k count b.1 in
-    counted.each (k - 1) (omega arith)
-    ∙ ap length (chosen_used faces count marks marked (k - 1) (omega arith)) in
-    same_soups (pos ∙ ap (map (position_of positions)) all)
-    (renumbered ∙ same_images (are_numbers count) _ _ (λ face. same_images _ _ _ one face) faces known) (names ∙ all)
+    counted.each (k - 1) (omega arith) ∙ ap length (chosen_used faces count marks marked (k - 1) (omega arith)) in
+    search (rules, same_images)

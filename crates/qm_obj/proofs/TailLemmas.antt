@@ -75,8 +75,7 @@ short_last byte piece = grind (arith, length-take-le (length piece - 1) piece (o
 
 -- A line feed is taken off, and nothing where there is none.
 fed_last : (prefix : Bytes) → without_last 10 (prefix ++ 10 ∷ []) ≡ prefix
-fed_last prefix =
-    grind (arith, length-append prefix (10 ∷ []), get_or_push prefix 10 0, take_at prefix (10 ∷ []))
+fed_last prefix = grind (arith, length-append prefix (10 ∷ []), get_or_push prefix 10 0, take_at prefix (10 ∷ []))
 
 -- A byte that does not stand in a line is not taken off.
 pub same_last : (byte : ℕ) (line : Bytes) → list_any (λ b. eqb b byte) line ≡ false → without_last byte line ≡ line
@@ -114,8 +113,7 @@ first_line prefix more none some = record {
   line = line_of (prefix ++ get_or (pieces more) 0 []);
   rest = map line_of (drop 1 (pieces more));
   are = ap (map line_of) (opens prefix more none some);
-  long = let behind = get_or (pieces more) 0 [] in
-      omega (arith, kept behind, short_last 13 (without_last 10 (prefix ++ behind)));
+  long = search (rules, kept);
 }
   where
     kept : (behind : Bytes) → length prefix ≤ length (without_last 10 (prefix ++ behind))

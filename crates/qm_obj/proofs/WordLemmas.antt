@@ -4,7 +4,7 @@ use Rattle.std.proofs.Common.{ap, eqb, inl, inr, map, not, set, suc, sym, true, 
 use Rattle.def_text.specs.Reading.{face_reading, is_letter, vertex_reading, words_reading}
 use Rattle.def_text.specs.{Logical.is_hash, Types.Words, Words.ends_word, declared.reading.Reading.TheVariants.Passed}
 use Rattle.qm_obj.specs.{Indices.with_clamped, Lines.IsFilled, Lines.IsReadTo, Lines.uncommented, Lines.with_word}
-use Rattle.std.proofs.lemmas.Bool.{and_from, cases_Bool, or_from, or_left, or_right, true≢false}
+use Rattle.std.proofs.lemmas.Bool.{cases_Bool, or_left, or_right, true≢false}
 use Rattle.std.proofs.lemmas.List.{Folds.list_all_at, Folds.list_all_more, drop_more, get_or-map, get_or-take}
 use Rattle.std.proofs.lemmas.List.{length-drop, length-map, length-take-le}
 use Rattle.std.specs.{List.before_first, List.list_all, List.list_any, List.position_or_len}
@@ -43,12 +43,8 @@ pub first_word : (rest : List ℕ) → (0 < length rest → is_blank (get_or res
     (words (uncommented (drop (position_or_len is_end rest) rest)))
 first_word [] at_word = refl
 first_word (b ∷ bs) at_word =
-    let off : is_blank b ≡ false = at_word (omega arith) in
     let e : 1 + position_or_len is_end bs ≡ suc (position_or_len is_end bs) = omega arith in
-    elim (cases_Bool (is_hash b)) [
-      | inl is ↦ let end : is_end b ≡ true = or_right _ _ is in rw (end, is) refl
-      | inr is ↦ let end : is_end b ≡ false = or_from _ _ off is in rw (end, is, e) (word_ahead b bs off)
-    ]
+    search (rules, word_ahead)
 
 -- A line is no longer without its comment, which is what stands from its first `#` on.
 pub uncommented_short : (line : List ℕ) → length (uncommented line) ≤ length line
@@ -84,12 +80,6 @@ pub record IsNext (all : Words) (count : ℕ) (word : List ℕ) (after : Words) 
   pub there : count < length all
   pub here : get_or all count [] ≡ word
   pub behind : after ≡ drop (count + 1) all
-
--- One slot more.
-pub filled_more : {X : Type 0} (says : List ℕ → X) (all : Words) (count size : ℕ) (slots : List X) (x : X)
-    → x ≡ says (get_or all count []) → IsFilled says all count size slots
-    → IsFilled says all (count + 1) size (set slots count x)
-filled_more {X} says all count size slots x is filled = search rules
 
 -- The slots have what the first words say.
 pub filled_all : {X : Type 0} (says : List ℕ → X) (all : Words) (count size : ℕ) (slots : List X) → size ≤ count
@@ -135,14 +125,7 @@ module _ {X : Type 0} {test : List ℕ → Bool} {says : List ℕ → X} {all : 
   pub read_more : {word : List ℕ} {after : Words} {x : X} → IsNext all count word after
       → cond (test word) (Some (says word)) None ≡ Some x
       → IsReadTo test says all size (count + 1) after (set slots count x)
-  read_more {word} {x = x} next is =
-      let got = some_from (test word) (says word) x is in
-      record {
-        within = omega arith;
-        rest_is = next.behind;
-        passed = list_all_more test all count [] next.there ∙ and_from _ _ read.passed (ap test next.here ∙ got.0);
-        filled = filled_more says all count size slots x (got.1 ∙ ap says (sym next.here)) read.filled;
-      }
+  read_more {word} {x = x} next is = search (rules, list_all_more)
 
   -- It does not pass it.
   pub read_bad : {word : List ℕ} {after : Words} → IsNext all count word after

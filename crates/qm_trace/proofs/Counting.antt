@@ -1,22 +1,21 @@
 -- How many riders pass a test with their notes.
 use Rattle.std.proofs.Common.{rules, ◌≡◌, ◌≢◌, ◌↔◌, ℕ, zero, suc, ◌+◌, ◌<◌, ◌≤◌, Bool, true, false, eqb, List, ◌∷◌, map}
 use Rattle.std.proofs.Common.{length, set, replicate, Option, Some, None, sym, ap, ◌∙◌, refl, inl, inr, arith, [], ◌^◌}
-use Rattle.std.proofs.Common.{cond, ◌||◌}
+use Rattle.std.proofs.{Common.cond, Common.◌||◌, lemmas.Bool.or_cases, lemmas.Bool.and_parts}
 use Rattle.std.proofs.lemmas.Bool.{cases_Bool, eq-eqb, ne_eqb, eqb-true, cases_lt, false≢true, or_left, or_right}
-use Rattle.std.proofs.lemmas.Bool.{or_cases, and_parts}
 use Rattle.std.proofs.lemmas.List.{set-get_or, get_or-map, get_or_past, length-map}
 use Rattle.def_cut.specs.Motion.{Terrain, end_of, is_among, begun, stop_of, or_else, straight, after_ride, ridden}
 use Rattle.def_cut.specs.Motion.{is_found, arrives_at, ride_on, ride, later, State}
-use Rattle.def_cut.specs.Events.{all_told, darts_in, is_waiting, more_if, note_at, rider_at, told_at, waiting}
 use Rattle.def_cut.specs.{declared.graph.Stop.Stop, declared.moving.Moving.Moving, FullCut.is_on, Traced.terrain_of}
-use Rattle.motion_laws.proofs.{Marks.noted_among, Marks.noted_where, Shown.AreShown, Shown.runs_ridden}
-use Rattle.motion_laws.proofs.{Shown.with_cases, Among.all_at, Among.not_all, Among.cases_Option, Among.any_at}
-use Rattle.motion_laws.proofs.{Among.any_where, Steps.stands, Onward.later_reached, Bits.IsReachedFrom}
+use Rattle.def_cut.specs.Events.{all_told, darts_in, is_waiting, more_if, note_at, rider_at, told_at, waiting}
+use Rattle.motion_laws.proofs.{Marks.noted_among, Marks.noted_where, Steps.stands, Onward.later_reached}
+use Rattle.motion_laws.proofs.Shown.{AreShown, runs_ridden, with_cases}
+use Rattle.motion_laws.proofs.Among.{all_at, not_all, cases_Option, any_at, any_where}
 use Rattle.qm_trace.specs.Motions.{AreCounted, is_untold, is_untold_by, runs_on, tally}
 use Rattle.qm_trace.specs.Tables.{is_running, AreDarts, CanRide, IsInstant, IsQueue, IsTableAt, dart_of, state_at}
-use Rattle.qm_trace.specs.declared.telling.Riders.{Riders}
-use Rattle.def_mesh.specs.{Darts.darts, Darts.to_of, Darts.twin_of, Faces.Faces, Manifold.IsManifold}
-use Rattle.def_feature.specs.Marked.{marked_starts, marked_first}
+use Rattle.def_mesh.specs.Darts.{darts, to_of, twin_of}
+use Rattle.{motion_laws.proofs.Bits.IsReachedFrom, qm_trace.specs.declared.telling.Riders.Riders}
+use Rattle.{def_mesh.specs.Faces.Faces, def_mesh.specs.Manifold.IsManifold, def_feature.specs.Marked.marked_first}
 use Rattle.{std.specs.List.list_all, std.specs.List.list_any, sum_laws.proofs.Tests.same_test}
 use Rattle.{site_laws.proofs.Sites.terrain, feature_laws.proofs.Breaks.begins, feature_laws.proofs.First.marked_begin}
 
@@ -96,10 +95,8 @@ pub waiting_told : (g : Terrain) (stood : ℕ → Bool) (ds : List ℕ) (v : ℕ
 waiting_told g stood ds v [] ns = refl
 waiting_told g stood ds v (q ∷ rs) [] = refl
 waiting_told g stood ds v (q ∷ rs) (None ∷ ns) = ap (more_if (is_waiting q.stop None)) (waiting_told g stood ds v rs ns)
-waiting_told g stood ds v (q ∷ rs) (Some d ∷ ns) =
-    ap (λ (b : Bool). more_if b (waiting (all_told g stood ds v rs ns) ns))
-    (noted (told_at g stood ds v q (Some d)).stop d)
-    ∙ (waiting_told g stood ds v rs ns ∙ ap (λ (b : Bool). more_if b (waiting rs ns)) (sym (noted q.stop d)))
+waiting_told g stood ds v (q ∷ rs) (Some d ∷ ns) = ap (λ (b : Bool). more_if b (waiting (all_told g stood ds v rs ns)
+    ns)) (noted (told_at g stood ds v q (Some d)).stop d) ∙ (search (rules, waiting_told g stood ds v rs ns))
   where
     noted : (o : Option Stop) (d : ℕ) → is_waiting o (Some d) ≡ false
     noted None d = refl
@@ -119,13 +116,7 @@ untold_is {g} {stood} {ds} {V} {bs} {rs} {ns} a onward = same_test _ _ to from
           let (d, m, o) = not_all (λ d. V (end_of g d)) (darts_in ns) off in
           let (r, l, n) = noted_where ns d m in
           let (runs, same) = a.noted r d n in
-          let untold : is_untold (rider_at rs r) (note_at ns r) ≡ true =
-          rw (a.shows r, n, o, runs) (eq-eqb _ _ (sym same)) in
-          absurd (omega (
-            arith,
-            eqb-true (tally is_untold rs ns) 0 e,
-            tally_some is_untold rs ns r (omega (arith, l, a.riders_long, a.notes_long)) l untold,
-          ))
+          search (rules, tally_some)
     ]
 
     -- Who was told is not untold.
@@ -135,14 +126,13 @@ untold_is {g} {stood} {ds} {V} {bs} {rs} {ns} a onward = same_test _ _ to from
     was_told d rides None f = ne_eqb (or_else (straight g d) d) d (f refl)
 
     from : list_all (λ d. V (end_of g d)) (darts_in ns) ≡ true → eqb (tally is_untold rs ns) 0 ≡ true
-    from all = eq-eqb (tally is_untold rs ns) 0 (tally_none is_untold rs ns (λ r l.
-        elim (cases_Option (note_at ns r)) [
-          | inl is ↦ rw is (not_noted (rider_at rs r).stop (rider_at rs r).dart)
-          | inr (d, is) ↦
-              let m = noted_among ns r d is in
-              let on : V (end_of g d) ≡ true = all_at (λ d. V (end_of g d)) d (darts_in ns) all m in
-              rw (a.shows r, is, on) (was_told d (rider_at bs r).rides (stop_of g stood ds d) (onward d m))
-        ]))
+    from all = eq-eqb (tally is_untold rs ns) 0 (tally_none is_untold rs ns (λ r l. elim (cases_Option (note_at ns r)) [
+      | inl is ↦ rw is (not_noted (rider_at rs r).stop (rider_at rs r).dart)
+      | inr (d, is) ↦
+          let m = noted_among ns r d is in
+          let on : V (end_of g d) ≡ true = all_at (λ d. V (end_of g d)) d (darts_in ns) all m in
+          rw (a.shows r, is, on) (was_told d (rider_at bs r).rides (stop_of g stood ds d) (onward d m))
+    ]))
 
 -- Nobody is counted as running where nobody runs, and only there.
 pub over_is : (riders : Riders) (noted : List (Option ℕ)) → AreCounted riders noted → (eqb riders.running 0 ≡ true) ↔
@@ -174,13 +164,8 @@ ridden_where (x ∷ rs) d m = elim (with_cases x.stop x.dart d (ridden rs) m) [
 -- The darts of the queue are those ridden next.
 pub same_darts : (riders : List Moving) (queue ds : List ℕ) → IsQueue riders queue → ds ≡ map (dart_of riders) queue
     → (d : ℕ) → is_among d ds ≡ is_among d (ridden riders)
-same_darts riders queue ds q e d =
-    ap (is_among d) e ∙ (any_map (λ e. eqb d e) (dart_of riders) queue ∙ same_test _ _
-    (λ m. let (r, n, is) = any_where (λ r. eqb d (dart_of riders r)) queue m in
-    let runs = q.runs r n in
-    rw (eqb-true d (dart_of riders r) is) (runs_ridden riders r runs.0 runs.1))
-    (λ m. let (r, l, runs, is) = ridden_where riders d m in
-    any_at (λ r. eqb d (dart_of riders r)) r queue (q.all r l runs) (eq-eqb d (dart_of riders r) (sym is))))
+same_darts riders queue ds q e d = ap (is_among d) e ∙ (any_map (λ e. eqb d e) (dart_of riders) queue ∙ same_test _ _
+    (search (rules, any_where, runs_ridden)) (search (rules, ridden_where, any_at)))
 
 -- Riders that have just begun have not ridden.
 pub begun_low : (ds : List ℕ) (r : ℕ) → (rider_at (map begun ds) r).rides ≤ 0
@@ -193,8 +178,7 @@ pub rides_low : (g : Terrain) (first : State) → ((r : ℕ) → (rider_at first
     → (rider_at (later g first k).riders r).rides ≤ k
 rides_low g first none zero r = none r
 rides_low g first none (suc k) r = elim (cases_lt r (length s.riders)) [
-  | inl l ↦ rw (get_or-map f s.riders r (begun 0) (begun 0) l) (by_rider (rider_at s.riders r)
-      (rider_at s.riders r).stop (rides_low g first none k r))
+  | inl l ↦ search (rules, get_or-map, by_rider, rides_low g first none k r)
   | inr h ↦ rw (get_or_past (map f s.riders) r (begun 0) (omega (arith, h, length-map s.riders f))) (omega arith)
 ]
   where
@@ -225,35 +209,20 @@ module _ {faces : Faces} {marks : List Bool} {k : ℕ} {riders : List Moving} {s
   reached : IsReachedFrom (terrain_of faces) (begins faces marks) (marked_first faces marks) now
   reached = search (rules, later_reached, terrain, marked_begin)
 
-  members : (d : ℕ) → is_among d ds ≡ is_among d (ridden now.riders)
-  members d = search (rules, same_darts)
-
   pub are_darts : AreDarts faces ds
-  are_darts d n = reached.low d (sym (members d) ∙ n)
+  are_darts d n = reached.low d (sym (search (rules, same_darts)) ∙ n)
 
   pub can_ride : k + 1 < 2 ^ 32 → CanRide faces riders queue
   can_ride few = record {
     low = λ r n. (waits.runs r n).0;
-    dart = λ r n. are_darts (dart_of riders r) (rw ridden_are (any_map (λ e. eqb (dart_of riders r) e)
-        (dart_of riders) queue ∙ any_at (λ x. eqb (dart_of riders r) (dart_of riders x)) r queue n (eq-eqb _ _ refl)));
-    rides = λ r n. omega (
-      arith,
-      rides_low (terrain_of faces) (marked_first faces marks) (begun_low (marked_starts faces marks)) k r,
-      ap (λ (rs : List Moving). (rider_at rs r).rides) at.riders_are,
-    );
+    dart = λ r n. are_darts (dart_of riders r) (search (rules, any_map, any_at));
+    rides = search (rules, rides_low, begun_low);
     apart = waits.apart;
   }
 
   module _ (taken1 : List Bool) (each : (d : ℕ) → is_on taken1 d ≡ cond (is_among d ds) true (is_on taken d)) where
-    marked : (d : ℕ) → is_on taken1 d ≡ is_among d ds
-    marked d = search rules
-
     pub instant : IsInstant faces marks k riders queue stood taken1
     instant = search (rules, same_darts)
-
-    found_same : (o : Option ℕ) → is_found o ds ≡ is_found o (ridden now.riders)
-    found_same None = refl
-    found_same (Some x) = members x
 
     -- Somebody has stood at v after the step where one had before, or ends there now.
     stands_next : (v : ℕ) → (now.stood v || list_any (λ d. eqb (to_of faces d) v) ds) ≡ next.stood v
@@ -262,14 +231,15 @@ module _ {faces : Faces} {marks : List Bool} {k : ℕ} {riders : List Moving} {s
       | inr n ↦
           let (d, m, e) = any_where (λ d. eqb (to_of faces d) v) ds n in
           ap next.stood (sym (eqb-true (to_of faces d) v e)) ∙ stands (terrain_of faces) (terrain faces mesh)
-          (begins faces marks) (marked_first faces marks) now reached d (sym (members d) ∙ m)
+          (begins faces marks) (marked_first faces marks) now reached d (sym (search (rules, same_darts)) ∙ m)
     ])
         (λ b. elim (or_cases (now.stood v) (list_any (arrives_at (terrain_of faces) (ridden now.riders) v)
         (ridden now.riders)) b) [
           | inl y ↦ or_left (now.stood v) _ y
           | inr n ↦
               let (d, m, e) = any_where (arrives_at (terrain_of faces) (ridden now.riders) v) (ridden now.riders) n in
-              or_right (now.stood v) _ (any_at (λ x. eqb (to_of faces x) v) d ds (members d ∙ m) (and_parts _ _ e).0)
+              or_right (now.stood v) _ (any_at (λ x. eqb (to_of faces x) v) d ds ((search (rules, same_darts)) ∙ m)
+              (and_parts _ _ e).0)
         ])
 
     pub stepped : {riders2 : List Moving} {stood2 covered2 taken2 : List Bool} → riders2 ≡
@@ -278,4 +248,4 @@ module _ {faces : Faces} {marks : List Bool} {k : ℕ} {riders : List Moving} {s
         → d < darts faces → is_on covered2 d ≡ (is_on covered d || (is_among d ds || is_found (twin_of faces d) ds)))
         → length taken2 ≡ length taken → ((d : ℕ) → is_on taken2 d ≡ cond (is_among d ds) false (is_on taken1 d))
         → IsTableAt faces marks (suc k) riders2 stood2 covered2 taken2
-    stepped r ls es lc ec lt e2 = search (rules, stands_next, members)
+    stepped r ls es lc ec lt e2 = search (rules, stands_next, same_darts)

@@ -1,18 +1,15 @@
 -- The tables and the queue before the first instant.
-use Rattle.std.proofs.Common.{rules, ◌≡◌, ℕ, ◌≤◌, Bool, false, not, ◌&&◌, List, [], ◌∷◌, length, map, ap, ◌∙◌, arith}
-use Rattle.std.proofs.Common.{◌+◌, ◌++◌, zero, suc, ◌-◌, ◌<◌, true, eqb, is_some, Option, Some, None, sym, refl, ◌||◌}
-use Rattle.std.proofs.Common.{inl, inr}
+use Rattle.std.proofs.Common.{rules, ◌≡◌, ℕ, ◌≤◌, Bool, false, not, List, [], ◌∷◌, length, map, ap, ◌∙◌, arith, ◌+◌}
+use Rattle.std.proofs.Common.{◌++◌, zero, suc, ◌-◌, ◌<◌, true, eqb, is_some, None, sym, refl, ◌||◌, inl, inr}
 use Rattle.std.proofs.lemmas.List.FromFn.{length-range_with_len, get_or-map-range_with_len, map-range_with_len_more}
 use Rattle.std.proofs.{lemmas.List.get_or-map, lemmas.List.length-map, lemmas.List.ext_get_or, lemmas.Bool.false≢true}
 use Rattle.def_mesh.specs.{Faces.Faces, Manifold.IsManifold, Vertices.vertex_count, Components.start_darts, Darts.darts}
 use Rattle.def_mesh.specs.{Darts.all_darts, Darts.twin_of, Kinds.is_inner, Kinds.is_singular}
-use Rattle.def_cut.specs.Motion.{begun, Terrain, State, ridden, is_among, ride_on, ride}
+use Rattle.def_cut.specs.Motion.{begun, State, ridden, is_among, ride}
 use Rattle.def_cut.specs.{FullCut.is_on, Events.rider_at, declared.moving.Moving.Moving, Traced.AreRiders}
 use Rattle.def_cut.specs.{Traced.IsRiderOf, Traced.is_cut, Traced.terrain_of, declared.graph.Rider.Rider}
-use Rattle.def_cut.specs.{declared.graph.Stop.Stop}
-use Rattle.def_feature.specs.{Marked.is_origin, Marked.marked_starts, Marked.marked_first, Marked.marked_last}
-use Rattle.def_feature.specs.{Marks.AreMarks}
-use Rattle.feature_laws.proofs.{First.origin_of, First.marked_begin, Breaks.begins}
+use Rattle.def_feature.specs.{Marked.marked_starts, Marked.marked_first, Marked.marked_last, Marks.AreMarks}
+use Rattle.feature_laws.proofs.{First.origin_of, First.marked_begin}
 use Rattle.motion_laws.proofs.Among.{AreApart, apart_filter, among_range, range_among, range_apart, among_here}
 use Rattle.motion_laws.proofs.Among.{cases_List, cases_Option, from_filter, in_filter}
 use Rattle.motion_laws.proofs.Onward.{at_rest, last_rests, runs_on, finish_later, later_long}
@@ -37,9 +34,7 @@ starts_few faces m = apart_few (darts faces) (start_darts faces) (started faces 
 
 -- So they do beside marks.
 pub marked_few : (faces : Faces) (marks : List Bool) → length (marked_starts faces marks) ≤ darts faces
-marked_few faces marks =
-    apart_few (darts faces) (marked_starts faces marks) (apart_filter (λ d. is_origin faces marks d && not
-    (is_on marks d)) (all_darts faces) (range_apart 0 (darts faces))) (λ d n. (origin_of faces marks d n).0)
+marked_few faces marks = apart_few _ _ (apart_filter _ _ (range_apart 0 (darts faces))) (λ d n. (origin_of _ _ d n).0)
 
 -- At first everybody runs.
 pub first_queue : (starts : List ℕ) (riders : List Moving) → riders ≡ map begun starts
@@ -48,11 +43,10 @@ first_queue starts riders is = record {
   runs = λ r m. let p = range_among 0 (length starts) r m in (
     omega (arith, p.1, ap length is, length-map starts begun),
     ap (λ (rs : List Moving). (rider_at rs r).stop) is
-        ∙ ap (λ (x : Moving). x.stop) (get_or-map begun starts r 0 (begun 0) (omega (arith, p.1))),
+        ∙ ap (λ (x : Moving). x.stop) (get_or-map begun starts r 0 _ (omega (arith, p.1))),
   );
-  all = λ r l e. among_range 0 (length starts) r (omega arith)
-      (omega (arith, l, ap length is, length-map starts begun));
-  apart = each_once (range_with_len 0 (length starts)) (range_apart 0 (length starts));
+  all = λ r l e. among_range 0 _ r (omega arith) (omega (arith, l, ap length is, length-map starts begun));
+  apart = each_once _ (range_apart 0 _);
 }
 
 -- The ground, vertex by vertex.
@@ -60,13 +54,11 @@ pub ground_is : (faces : Faces) (boundary singular : List Bool)
     → boundary ≡ map (λ v. not (is_inner faces v)) (range_with_len 0 (vertex_count faces))
     → singular ≡ map (is_singular faces) (range_with_len 0 (vertex_count faces)) → IsGround faces boundary singular
 ground_is faces boundary singular e f = rw (e, f) (record {
-  boundary_long = length-map (range_with_len 0 (vertex_count faces)) (λ v. not (is_inner faces v))
-      ∙ length-range_with_len 0 (vertex_count faces);
-  singular_long = length-map (range_with_len 0 (vertex_count faces)) (is_singular faces)
-      ∙ length-range_with_len 0 (vertex_count faces);
-  at_boundary = λ v l. get_or-map-range_with_len (λ u. not (is_inner faces u)) 0 (vertex_count faces) v v false l
-      (omega arith);
-  at_singular = λ v l. get_or-map-range_with_len (is_singular faces) 0 (vertex_count faces) v v false l (omega arith);
+  boundary_long = length-map (range_with_len 0 (vertex_count faces)) (λ v. not (is_inner _ v))
+      ∙ length-range_with_len 0 _;
+  singular_long = length-map (range_with_len 0 (vertex_count faces)) (is_singular faces) ∙ length-range_with_len 0 _;
+  at_boundary = search (rules, get_or-map-range_with_len);
+  at_singular = λ v l. get_or-map-range_with_len _ 0 _ v v _ l (omega arith);
 })
 
 pub map_more : {X : Type 0} (f : ℕ → X) (n : ℕ) → map f (range_with_len 0 (n + 1)) ≡ map f (range_with_len 0 n)
@@ -78,12 +70,6 @@ map_more f n = map-range_with_len_more f 0 n n (omega arith)
 pub some_wait : (n : ℕ) → eqb n 0 ≡ false → 0 < n
 some_wait zero e = absurd (false≢true (sym e))
 some_wait (suc n) e = omega arith
-
--- Who runs after a step ran before.
-ran : (g : Terrain) (stood : ℕ → Bool) (ds : List ℕ) (x : Moving) (o : Option Stop) → (ride_on g stood ds x o).stop
-    ≡ None → x.stop ≡ o → x.stop ≡ None
-ran g stood ds x None e is = is
-ran g stood ds x (Some s) e is = e
 
 -- The tables after k steps and after one more, and the queue of those who ran.
 module _ {faces : Faces} {marks : List Bool} {k : ℕ} {riders new : List Moving} {queue : List ℕ}
@@ -135,8 +121,7 @@ next_on {queue = []} t q some way more e = absurd (omega arith)
 next_on {faces} {marks} {k} {riders} {queue = r ∷ queue} t q some way more e =
     let p = q.runs r (among_here r r queue refl) in
     elim (cases_List (ridden now.riders)) [
-      | inl none ↦ absurd (false≢true (sym (ap (is_among (rider_at riders r).dart)
-          (ap (λ (rs : List Moving). ridden rs) t.riders_are ∙ none)) ∙ runs_ridden riders r p.0 p.1))
+      | inl none ↦ absurd (false≢true (sym (search rules) ∙ runs_ridden riders r p.0 p.1))
       | inr (d, ds, some) ↦
           let plus : k + 1 ≡ suc k = omega arith in
           rw plus (sym (runs_on (terrain_of faces) more d ds now some) ∙ way (suc more) (omega (arith, e)))
@@ -158,19 +143,16 @@ end_at {faces} {marks} {k} t way low none =
 -- After as many steps as there are vertices nobody rides.
 pub all_over : {faces : Faces} → IsManifold faces → {marks : List Bool} → AreMarks faces marks → {riders : List Moving}
     → riders ≡ (state_at faces marks (vertex_count faces)).riders → ridden riders ≡ []
-all_over {faces} m {marks} marked is = ap ridden is ∙ last_rests (terrain_of faces) (terrain faces m)
-    (begins faces marks) (marked_first faces marks) (marked_begin faces m marks marked) (vertex_count faces)
-    (all_below faces)
+all_over {faces} m {marks} marked is = ap ridden is ∙ last_rests _ (terrain _ m) _ _ (marked_begin _ m _ marked) _
+    (all_below _)
 
 -- The marks of the graph.
 pub marks_are : (faces : Faces) (covered marks : List Bool) → length marks ≡ darts faces
     → ((d : ℕ) → d < darts faces → is_on marks d ≡ (is_on covered d || not (is_some (twin_of faces d))))
     → marks ≡ map (is_closed_at faces covered) (all_darts faces)
-marks_are faces covered marks long each =
-    ext_get_or false marks (map (is_closed_at faces covered) (all_darts faces)) (long ∙ sym (length-map
-    (all_darts faces) (is_closed_at faces covered) ∙ length-range_with_len 0 (darts faces))) (λ d l. each d
-    (omega (arith, l, long)) ∙ sym (get_or-map-range_with_len (is_closed_at faces covered) 0 (darts faces) d d false
-    (omega (arith, l, long)) (omega arith)))
+marks_are faces covered marks long each = ext_get_or false marks (map (is_closed_at faces covered) (all_darts faces))
+    (long ∙ sym (length-map (all_darts faces) (is_closed_at faces covered) ∙ length-range_with_len 0 (darts faces)))
+    (search (rules, get_or-map-range_with_len))
 
 -- They are the cut of a state with these covered darts.
 pub cut_is : (faces : Faces) (s : State) (covered : List Bool)
@@ -179,8 +161,7 @@ pub cut_is : (faces : Faces) (s : State) (covered : List Bool)
 cut_is faces s covered same =
     let cut = is_cut (terrain_of faces) s in
     sym (marks_are faces covered (map (is_cut (terrain_of faces) s) (all_darts faces)) (length-map (all_darts faces) cut
-    ∙ length-range_with_len 0 (darts faces)) (λ d l. get_or-map-range_with_len cut 0 (darts faces) d d false l
-    (omega arith) ∙ ap (λ b. b || not (is_some (twin_of faces d))) (sym (same d l))))
+    ∙ length-range_with_len 0 (darts faces)) (search (rules, get_or-map-range_with_len)))
 
 -- No rider is lost.
 pub last_long : (faces : Faces) (marks : List Bool) → length (marked_last faces marks).riders

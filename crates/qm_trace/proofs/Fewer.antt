@@ -1,28 +1,27 @@
 -- Which events are possible, and how many can still happen.
 use Rattle.std.proofs.Common.{rules, ◌≡◌, ℕ, zero, suc, ◌+◌, ◌*◌, ◌-◌, ◌<◌, ◌≤◌, Bool, true, false, cond, List, ◌∷◌}
 use Rattle.std.proofs.Common.{◌++◌, length, set, map, replicate, Option, Some, None, sym, ap, ◌∙◌, refl, arith, [], eqb}
-use Rattle.std.proofs.Common.{◌||◌, get_or}
-use Rattle.std.proofs.{lemmas.Bool.false≢true, Math.Bool.or-false}
+use Rattle.std.proofs.{Common.◌||◌, Common.get_or, lemmas.Bool.false≢true, Math.Bool.or-false}
 use Rattle.std.proofs.lemmas.List.{length-map, length-replicate, length-set, ext_get_or, get_or_default}
-use Rattle.def_mesh.specs.{Faces.Faces, Components.start_darts, Manifold.IsManifold, Darts.darts, Darts.to_of}
-use Rattle.def_mesh.specs.{Darts.from_of, Darts.twin_of, Vertices.vertex_count}
+use Rattle.def_mesh.specs.{Faces.Faces, Components.start_darts, Manifold.IsManifold, Vertices.vertex_count}
+use Rattle.def_mesh.specs.Darts.{darts, to_of, from_of}
 use Rattle.def_cut.specs.Events.{after_ride_of, after_settling, all_told, closed, darts_in, decided_at}
-use Rattle.def_cut.specs.Events.{are_ends_settled, leads_to, rider_at, ridden_once_more, rides_in, told, told_at}
+use Rattle.def_cut.specs.Events.{are_ends_settled, leads_to, rider_at, ridden_once_more, rides_in, told}
 use Rattle.def_cut.specs.Events.{first_event_state, Event, EventState, Leads, is_waiting, may_settle, note_at, May}
-use Rattle.def_cut.specs.Events.{NobodyRuns, mark_twin, marked_from, more_if, waiting, may_ride, after_event}
-use Rattle.def_cut.specs.{Motion.begun, Motion.Terrain, Motion.is_among, FullCut.is_on, Traced.terrain_of}
-use Rattle.def_cut.specs.{declared.graph.Stop.Stop, declared.moving.Moving.Moving, Events.Event.Ride}
-use Rattle.def_cut.specs.{Events.Event.Settle, Views.MotionView, Views.IsMotionOn, Views.with_state}
-use Rattle.motion_laws.proofs.{Marks.no_darts, Marks.from_marks, Marks.marked_long, Marks.none_on, Shown.still_runs}
-use Rattle.motion_laws.proofs.{Order.parts, Order.some_end, Onward.later_long}
-use Rattle.site_laws.proofs.{Laws.order_law, Sites.started}
+use Rattle.def_cut.specs.Events.{NobodyRuns, marked_from, waiting, may_ride, after_event}
+use Rattle.def_cut.specs.{FullCut.is_on, Traced.terrain_of, declared.graph.Stop.Stop, declared.moving.Moving.Moving}
+use Rattle.def_cut.specs.Motion.{begun, Terrain, is_among}
+use Rattle.def_cut.specs.Views.{MotionView, IsMotionOn, with_state}
+use Rattle.motion_laws.proofs.Marks.{no_darts, from_marks, marked_long, none_on}
+use Rattle.motion_laws.proofs.{Shown.still_runs, Order.parts, Order.some_end, Onward.later_long}
 use Rattle.qm_trace.proofs.Reaching.{MayRide, Reached, as_long, leads_more, more_led, reached_by, ride_runs}
 use Rattle.qm_trace.proofs.Counting.{tally_none, waiting_is, all_run, all_wait, none_untold, tally_runs, tally_set}
 use Rattle.qm_trace.proofs.Noting.{settle_low, MaySettle, Settling}
-use Rattle.qm_trace.specs.{Left.left_in, Left.left_of, Left.rides_of, Left.unset, declared.telling.Riders.Riders}
-use Rattle.qm_trace.specs.{Motions.AreCounted, Motions.AreNotes, Motions.tally, Tables.IsSite}
+use Rattle.qm_trace.specs.Left.{left_in, left_of, rides_of, unset}
+use Rattle.qm_trace.specs.{declared.telling.Riders.Riders, Motions.AreCounted, Motions.AreNotes, Tables.IsSite}
 use Rattle.qm_trace.specs.{declared.notes.Notes.Notes, declared.ground.Site.Site}
-use Rattle.{std.specs.List.list_any, mesh_laws.proofs.Flood.all_below}
+use Rattle.{def_cut.specs.Events.Event.Ride, def_cut.specs.Events.Event.Settle, site_laws.proofs.Laws.order_law}
+use Rattle.{site_laws.proofs.Sites.started, std.specs.List.list_any, mesh_laws.proofs.Flood.all_below}
 
 module _ {faces : Faces} {x : EventState} (now : Reached faces x) where
   -- Where nobody waits, and each noted dart ends at a settled vertex, nobody runs.
@@ -61,16 +60,12 @@ told_rides : (g : Terrain) (d : ℕ) (q : Moving) (o : Option Stop) → (told g 
 told_rides g d q None = refl
 told_rides g d q (Some s) = refl
 
-told_at_rides : (g : Terrain) (stood : ℕ → Bool) (ds : List ℕ) (v : ℕ) (q : Moving) (n : Option ℕ)
-    → (told_at g stood ds v q n).rides ≡ q.rides
-told_at_rides g stood = search (rules, told_rides)
-
 rides_told : (g : Terrain) (stood : ℕ → Bool) (ds : List ℕ) (v : ℕ) (rs : List Moving) (ns : List (Option ℕ))
     → length ns ≡ length rs → rides_of (all_told g stood ds v rs ns) ≡ rides_of rs
 rides_told g stood ds v [] ns same = refl
 rides_told g stood ds v (q ∷ rs) [] same = absurd (omega (arith, same))
 rides_told g stood ds v (q ∷ rs) (n ∷ ns) same =
-    search (rules, told_at_rides, rides_told g stood ds v rs ns (omega (arith, same)))
+    search (rules, told_rides, rides_told g stood ds v rs ns (omega (arith, same)))
 
 no_rides : (starts : List ℕ) → rides_of (map begun starts) ≡ 0
 no_rides [] = refl
@@ -105,9 +100,8 @@ module _ {faces : Faces} {x : EventState} (now : Reached faces x) where
 
 module _ {faces : Faces} (m : IsManifold faces) where
   -- The riders have made as many rides as the events.
-  rides_from : (done es : List Event) (x y : EventState) (c : ℕ)
-      → Leads (terrain_of faces) (first_event_state faces) done x → rides_of x.riders ≡ c
-      → Leads (terrain_of faces) x es y → rides_of y.riders ≡ c + rides_in es
+  rides_from : (done es : List Event) (x y : EventState) (c : ℕ) → Leads (terrain_of faces) (first_event_state faces)
+      done x → rides_of x.riders ≡ c → Leads (terrain_of faces) x es y → rides_of y.riders ≡ c + rides_in es
   rides_from done [] x y c l e led = let n : c + 0 ≡ c = omega arith in
       rw n (rw (← led) e)
   rides_from done (Ride r ∷ es) x y c l e led =
@@ -122,8 +116,7 @@ module _ {faces : Faces} (m : IsManifold faces) where
 -- They are no more than the darts.
 rides_few : {faces : Faces} {x : EventState} → Reached faces x → rides_of x.riders ≤ darts faces
 rides_few {faces} {x} now =
-    let made = rides_from now.mesh [] now.led.0 (first_event_state faces) x 0 refl (no_rides (start_darts faces))
-    now.led.1 in
+    let made = rides_from now.mesh [] _ _ x 0 refl (no_rides _) now.led.1 in
     omega (arith, made, (order_law faces now.mesh now.led.0 x now.led.1).bounded)
 
 pub ride_less : {faces : Faces} {x : EventState} {r : ℕ} → MayRide faces x r
@@ -133,7 +126,6 @@ ride_less {faces} {x} {r} k =
     let few = rides_few (reached_by k.now.mesh (after_ride_of (terrain_of faces) x r)
     (more_led k.now (Ride r) (k.low, k.may))) in
     let b = darts faces - suc (rides_of x.riders) in
-    let n = length x.settled + 2 in
     let here : darts faces - rides_of x.riders ≡ suc b = omega (arith, more, few) in
     let some = left_few (darts_in (after_ride_of (terrain_of faces) x r).noted) x.settled in
     rw (here, more) (omega (arith, some))
@@ -185,8 +177,7 @@ pub first_stood : {faces : Faces} → IsManifold faces → {nowhere stood : List
     → stood ≡ marked_from (terrain_of faces) (start_darts faces) (replicate (vertex_count faces) false)
 first_stood {faces} m {nowhere} {stood} {starts} is long same each =
     let nobody = replicate (vertex_count faces) false in
-    ext_get_or false stood _ (long ∙ (ap length is ∙ sym (marked_long (terrain_of faces) (start_darts faces) nobody)))
-    (λ v l. each v ∙ rw (
+    ext_get_or false stood _ (search (rules, marked_long)) (λ v l. each v ∙ rw (
       is,
       same,
       from_marks (terrain_of faces) (start_darts faces) nobody v (λ d n. omega (
@@ -222,34 +213,17 @@ module _ {riders : Riders} {noted new : List (Option ℕ)} (k : AreCounted rider
 -- A ride of the rider that was read.
 module _ {faces : Faces} {x : EventState} {r : ℕ} (k : MayRide faces x r) {read : Moving}
     (same : read ≡ rider_at x.riders r) {noted : List (Option ℕ)} (is : noted ≡ set x.noted r (Some read.dart)) where
-  -- One rider and its note count no more, but those that it has now do.
-  changed : (p : Moving → Option ℕ → Bool) (old new : Bool) → p read None ≡ old
-      → p (ridden_once_more read) (Some read.dart) ≡ new → tally p (set x.riders r (ridden_once_more read)) noted
-      + more_if old 0 ≡ tally p x.riders x.noted + more_if new 0
-  changed p old new o n = search (rules, tally_set)
-
   runs : read.stop ≡ None
   runs = rw same (ride_runs k)
 
   -- As many run, one more is untold, and one less waits.
   pub rode_waits : waiting (set x.riders r (ridden_once_more read)) noted + 1 ≡ waiting x.riders x.noted
-  rode_waits = search (rules, changed, waiting_is)
+  rode_waits = search (rules, tally_set, waiting_is)
 
   pub rode_counted : {riders new : Riders} → AreCounted riders x.noted → riders.list.items ≡ x.riders
       → new.list.items ≡ set x.riders r (ridden_once_more read) → new.running ≡ riders.running
       → new.untold ≡ riders.untold + 1 → AreCounted new noted
-  rode_counted counted old list run more = search (rules, changed)
-
-  -- The state after it.
-  pub ride_state : {riders : List Moving} {covered : List Bool} → riders ≡ set x.riders r (ridden_once_more read)
-      → covered ≡ mark_twin (twin_of faces read.dart) (set x.covered read.dart true) → ◌≡◌ {A = EventState} (record {
-        riders = riders;
-        stood = x.stood;
-        covered = covered;
-        noted = noted;
-        settled = x.settled;
-      }) (after_ride_of (terrain_of faces) x r)
-  ride_state a b = rw (a, b, is, same) refl
+  rode_counted counted old list run more = search (rules, tally_set)
 
 -- The state of a motion.
 pub reached_now : {faces : Faces} → IsManifold faces → {motion seen : MotionView} → motion ≡ seen

@@ -1,26 +1,22 @@
 -- By the marks of an instant riders ride as the motion says.
-use Rattle.std.proofs.Common.{rules, ◌≡◌, ℕ, suc, ◌<◌, Bool, true, false, cond, not, ◌&&◌, List, length, map, Option}
-use Rattle.std.proofs.Common.{Some, None, sym, ap, ◌∙◌, refl, arith, ◌||◌}
-use Rattle.std.proofs.{lemmas.List.ext_get_or, lemmas.List.get_or-map, lemmas.List.length-map}
-use Rattle.def_mesh.specs.{Darts.next_of, Darts.prev_of, Darts.twin_of, Darts.to_of, Faces.Faces, Manifold.IsManifold}
-use Rattle.def_mesh.specs.{Kinds.is_inner, Kinds.is_singular}
-use Rattle.def_cut.specs.Motion.{end_of, ridden, is_among, is_found, is_met, stop_of, after_ride, ride_on, ride, begun}
-use Rattle.def_cut.specs.Motion.{State, Terrain}
-use Rattle.def_cut.specs.{FullCut.is_on, declared.graph.Stop.Stop, declared.graph.Stop.TheVariants.Tie}
+use Rattle.std.proofs.Common.{rules, ◌≡◌, ℕ, suc, ◌<◌, Bool, true, false, cond, not, List, length, map, Option, Some}
+use Rattle.std.proofs.Common.{None, sym, ap, ◌∙◌, refl, arith, ◌||◌}
+use Rattle.std.proofs.lemmas.List.{ext_get_or, get_or-map, length-map}
+use Rattle.def_mesh.specs.Darts.{next_of, prev_of, twin_of, to_of}
+use Rattle.def_mesh.specs.{Faces.Faces, Manifold.IsManifold, Kinds.is_inner, Kinds.is_singular}
+use Rattle.def_cut.specs.Motion.{end_of, ridden, is_among, is_found, is_met, stop_of, after_ride, ride, begun, State}
+use Rattle.def_cut.specs.{Motion.Terrain, FullCut.is_on, declared.graph.Stop.Stop, declared.graph.Stop.TheVariants.Tie}
 use Rattle.def_cut.specs.{declared.moving.Moving.Moving, Traced.terrain_of, Events.rider_at}
 use Rattle.motion_laws.proofs.{Shown.runs_ridden, Steps.two_bits, Onward.later_reached, Bits.IsReachedFrom}
-use Rattle.feature_laws.proofs.{Breaks.begins, First.marked_begin}
 use Rattle.qm_trace.specs.Tables.{IsInstant, AreRode, rode, stop_by, is_met_now, is_crowded, is_faced, state_at}
-use Rattle.{mesh_laws.proofs.Flood.all_below, site_laws.proofs.Sites.terrain, def_feature.specs.Marked.marked_first}
+use Rattle.{feature_laws.proofs.Breaks.begins, feature_laws.proofs.First.marked_begin, mesh_laws.proofs.Flood.all_below}
+use Rattle.{site_laws.proofs.Sites.terrain, def_feature.specs.Marked.marked_first}
 
 -- Tests in a row, where the last answers need only agree if all tests fail.
 in_a_row : (a b c e : Bool) (w x y z u v : Option Stop) → (a ≡ false → b ≡ false → c ≡ false → e ≡ false → u ≡ v)
     → cond a w (cond b x (cond c y (cond e z u))) ≡ cond a w (cond b x (cond c y (cond e z v)))
 in_a_row false false false false w x y z u v f = f refl refl refl refl
 in_a_row _ _ _ _ w x y z u v f = refl
-
-tie_or_on : (a b : Bool) (t : Option Stop) → cond (a || b) t None ≡ cond (not a && not b) None t
-tie_or_on a b t = search rules
 
 -- In a state that is reached the marks `taken` say which darts are ridden.
 module _ {faces : Faces} (m : IsManifold faces) {begin : ℕ → Bool} {first s : State}
@@ -53,7 +49,7 @@ module _ {faces : Faces} (m : IsManifold faces) {begin : ℕ → Bool} {first s 
       ∙ (ap (λ q. q || is_faced (twin_of faces (prev_of a)) taken) (marked (prev_of a))
       ∙ ap (λ q. is_among (prev_of a) ds || q) (ap (λ o. is_faced o taken) x.second ∙ marked (prev_of b))) in
       ap (λ (q : Bool). cond q tie None) crowd
-      ∙ (tie_or_on (is_among (prev_of a) ds) (is_among (prev_of b) ds) tie ∙ sym (ap (λ (q : Bool). cond q None tie)
+      ∙ ((search rules) ∙ sym (ap (λ (q : Bool). cond q None tie)
       (two_bits g t s.stood ds reached.apart reached.low reached.left d a b c n off x)))))
 
 module _ {faces : Faces} (m : IsManifold faces) {marks : List Bool} {k : ℕ} {riders : List Moving} {queue : List ℕ}
@@ -70,14 +66,10 @@ module _ {faces : Faces} (m : IsManifold faces) {marks : List Bool} {k : ℕ} {r
       ≡ ride (terrain_of faces) now.stood (ridden now.riders) (rider_at riders r)
   one_rider r l true on =
       let d = (rider_at riders r).dart in
-      let runs : (rider_at riders r).stop ≡ None = (i.waits.runs r on).1 in
-      let there : is_among d (ridden now.riders) ≡ true =
-      sym (ap (λ (rs : List Moving). is_among d (ridden rs)) i.riders_are) ∙ runs_ridden riders r l runs in
+      let there : is_among d (ridden now.riders) ≡ true = search (rules, runs_ridden) in
       let end_low = all_below faces (next_of d) ((terrain faces m).half.next_low d (reached.low d there)) in
-      ap (after_ride (terrain_of faces) d (rider_at riders r).rides)
-      (stop_same m reached taken (λ e. i.taken_is e ∙ ap (λ (rs : List Moving). is_among e (ridden rs)) i.riders_are) d
-      (is_on stood (to_of faces d)) there (i.stood_is (to_of faces d) end_low))
-      ∙ sym (ap (ride_on (terrain_of faces) now.stood (ridden now.riders) (rider_at riders r)) runs)
+      ap (after_ride (terrain_of faces) d (rider_at riders r).rides) (stop_same m reached taken (λ e. search rules) d
+      (is_on stood (to_of faces d)) there (i.stood_is (to_of faces d) end_low)) ∙ sym (search rules)
   one_rider r l false off = search rules
 
   pub next_riders : (new : List Moving) → length new ≡ length riders → AreRode faces stood taken queue riders new
@@ -86,5 +78,4 @@ module _ {faces : Faces} (m : IsManifold faces) {marks : List Bool} {k : ℕ} {r
       let f = ride (terrain_of faces) now.stood (ridden now.riders) in
       ext_get_or (begun 0) new (map f riders) (long ∙ sym (length-map riders f)) (λ r h.
       let l : r < length riders = omega (arith, h, long) in
-      each r l ∙ (one_rider r l (is_among r queue) refl ∙ sym (get_or-map f riders r (begun 0) (begun 0) l)))
-      ∙ ap (map f) i.riders_are
+      each r l ∙ (search (rules, one_rider, get_or-map))) ∙ ap (map f) i.riders_are

@@ -7,9 +7,8 @@ use Rattle.std.proofs.lemmas.{Bool.eqb-true, List.get_or-set_same, List.get_or-s
 use Rattle.std.proofs.lemmas.{List.length-replicate, List.get_or_default, List.ext_get_or}
 use Rattle.std.proofs.lemmas.Option.{none-some, same_Some}
 use Rattle.def_mesh.specs.{Faces.Faces, Darts.darts, Darts.to_of, Darts.from_of, Darts.next_of, Darts.prev_of}
-use Rattle.def_mesh.specs.{Vertices.fan_of, Vertices.vertex_count, Components.start_darts, Kinds.is_inner}
-use Rattle.def_mesh.specs.{Kinds.is_singular}
-use Rattle.def_cut.specs.Motion.{is_among, State, ridden, stop_of, or_else, straight, begun, step, start, Terrain}
+use Rattle.def_mesh.specs.{Vertices.fan_of, Vertices.vertex_count, Kinds.is_inner, Kinds.is_singular}
+use Rattle.def_cut.specs.Motion.{is_among, State, ridden, stop_of, or_else, straight, begun, step, Terrain}
 use Rattle.def_cut.specs.Events.{darts_in, note_at, EventState, waiting, rider_at, leads_to, may_settle, told}
 use Rattle.def_cut.specs.Events.{decided_at, are_ends_settled, after_settling, ridden_once_more}
 use Rattle.def_cut.specs.{FullCut.is_on, Traced.terrain_of}
@@ -22,9 +21,8 @@ use Rattle.motion_laws.proofs.{Shown.told_long, Shown.told_place, Steps.is_next,
 use Rattle.qm_trace.specs.{declared.notes.Notes.Notes, Motions.AreNotes, Motions.CanTell, Motions.told_by}
 use Rattle.qm_trace.specs.{Motions.AreCounted, Tables.AreEachOnce, Tables.IsSite, Tables.stop_by, Tables.stop_here}
 use Rattle.qm_trace.specs.{declared.ground.Site.Site, declared.telling.Riders.Riders}
-use Rattle.qm_trace.proofs.{Ends.all_apart, Ends.each_once, Tellings.any_snoc, Tellings.once, Tellings.set_more}
-use Rattle.qm_trace.proofs.{Reaching.Reached, Reaching.as_long, Counting.untold_is, Counting.waiting_told}
-use Rattle.qm_trace.proofs.{Instants.stop_same}
+use Rattle.qm_trace.proofs.{Ends.all_apart, Tellings.any_snoc, Tellings.once, Tellings.set_more, Reaching.Reached}
+use Rattle.qm_trace.proofs.{Reaching.as_long, Counting.untold_is, Counting.waiting_told, Instants.stop_same}
 use Rattle.mesh_laws.proofs.Chains.{next_of-prev_of, next_of_low, prev_of-next_of}
 use Rattle.{std.specs.Vec.vec_capacity, std.specs.List.list_any, sum_laws.proofs.Tests.same_test}
 use Rattle.{feature_laws.proofs.Breaks.from_fan, feature_laws.proofs.Breaks.in_fan, site_laws.proofs.Sites.terrain}
@@ -52,31 +50,24 @@ pub one_note : (notes new : Notes) (r d : ℕ) → AreNotes notes → r < length
     → new.places.items ≡ set notes.places.items d r → new.queue.items ≡ notes.queue.items ++ r ∷ []
     → vec_capacity notes.queue ≤ vec_capacity new.queue → AreNotes new
 one_note notes new r d are low d_low fresh alone is_noted is_taken is_places is_queue room = record {
-  places_long = rw (is_places, is_taken, length-set notes.places.items d r, length-set notes.taken.items d true)
-      are.places_long;
+  places_long = search rules;
   taken_is = λ e. search (rules, mark_is, are.taken_is, noted_more);
   slot = λ q e n.
       let m = rw is_noted at n in
       rw is_places (elim (cases_eq q r) [
-        | inl s ↦
-            let same = same_Some e d (sym (rw s at m) ∙ get_or-set_same notes.noted.items r (Some d) None low) in
-            rw (same, get_or-set_same notes.places.items d r 0 (omega (arith, d_low, are.places_long))) (sym s)
+        | inl s ↦ search rules
         | inr ne ↦
             let old = sym (get_or-set_other notes.noted.items r q (Some d) None ne) ∙ m in
-            get_or-set_other notes.places.items d e r 0
-            (λ s. false≢true (sym alone ∙ rw s at (noted_among notes.noted.items q e old))) ∙ are.slot q e old
+            get_or-set_other notes.places.items d e r 0 (search (rules, noted_among)) ∙ are.slot q e old
       ]);
-  queue_has = λ q e n. (let more = any_snoc (λ e. eqb q e) notes.queue.items r in
-      search (rules, cases_eq q r, more, are.queue_has, get_or-set_other));
+  queue_has = search (rules, any_snoc);
   queue_is = λ q a. rw is_noted (elim (among_append q notes.queue.items (r ∷ []) (rw is_queue at a)) [
     | inl b ↦ let (e, n) = are.queue_is q b in
         (e, get_or-set_other notes.noted.items r q (Some d) None (differs q b) ∙ n)
     | inr b ↦ elim (among_cases q r [] b)
         [ inl s ↦ (d, rw s (get_or-set_same notes.noted.items r (Some d) None low)) | inr c ↦ absurd (false≢true c) ]
   ]);
-  queue_apart = rw is_queue (each_once (notes.queue.items ++ r ∷ []) (apart_append notes.queue.items (r ∷ [])
-      (all_apart notes.queue.items are.queue_apart) (refl, tt)
-      (λ q a b. elim (among_cases q r [] b) [ inl s ↦ differs q a s | inr c ↦ false≢true c ])));
+  queue_apart = search (rules, apart_append);
   room = omega (arith, are.room, room, ap length is_noted, length-set notes.noted.items r (Some d));
 }
   where
@@ -143,10 +134,6 @@ module _ {faces : Faces} {queue : List ℕ} {i : ℕ} {first noted : List (Optio
       ≡ cond (is_among q (take (i + 1) queue)) None (note_at first q)
   taken_back q = set_more None queue i noted first (λ r. None) None place back_short refl q (before q)
 
-  -- Another note stays.
-  stays : (q e : ℕ) → note_at noted q ≡ Some e → e ≢ d → note_at (set noted r None) q ≡ Some e
-  stays q e n differ = search rules
-
   -- A mark that stays belongs to another note.
   pub marks_back : (taken : List Bool) → note.0 < length taken
       → ((e : ℕ) → is_on taken e ≡ true → (q : ℕ) × (note_at noted q ≡ Some e)) → (e : ℕ)
@@ -158,10 +145,9 @@ module _ {faces : Faces} {queue : List ℕ} {i : ℕ} {first noted : List (Optio
       → (u : ℕ) → is_on (set settled v false) u ≡ true
       → (q : ℕ) × (e : ℕ) × (note_at (set noted (get_or queue i 0) None) q ≡ Some e) × (to_of faces e ≡ u)
   ends_back settled {v} v_is v_low old u on =
-      let differ : u ≢ v = λ s. false≢true
-      (sym (ap (is_on (set settled v false)) s ∙ get_or-set_same settled v false false v_low) ∙ on) in
+      let differ : u ≢ v = search rules in
       let q = old u (sym (get_or-set_other settled v u false false differ) ∙ on) in
-      (q.0, q.1, stays q.0 q.1 q.2 (λ s. differ (sym q.3 ∙ (ap (to_of faces) s ∙ sym v_is))), q.3)
+      (q.0, q.1, (search rules), q.3)
 
 -- A settling: which riders it tells, how, and when the instant ends.
 
@@ -169,11 +155,9 @@ module _ {faces : Faces} {queue : List ℕ} {i : ℕ} {first noted : List (Optio
 pub end_is : (faces : Faces) (v : ℕ) (ds : List ℕ) (taken : List Bool) → ((d : ℕ) → is_on taken d ≡ is_among d ds)
     → ((d : ℕ) → is_among d ds ≡ true → d < darts faces)
     → list_any (λ e. is_on taken (prev_of e)) (fan_of faces v) ≡ list_any (leads_to (terrain_of faces) v) ds
-end_is faces v ds taken is low = same_test _ _
-    (λ a. let (e, n, t) = any_where (λ e. is_on taken (prev_of e)) (fan_of faces v) a in
-    any_at (leads_to (terrain_of faces) v) (prev_of e) ds (sym (is (prev_of e)) ∙ t)
-    (ap (λ x. eqb (from_of faces x) v) (next_of-prev_of e) ∙ eq-eqb _ _ (from_fan faces v e n).1))
-    (λ a. let (d, n, t) = any_where (leads_to (terrain_of faces) v) ds a in
+end_is faces v ds taken is low = same_test _ _ (λ a. let (e, n, t) = any_where _ _ a in
+    any_at _ _ ds (sym (is (prev_of e)) ∙ t) (ap (λ x. eqb (from_of faces x) v) (next_of-prev_of e) ∙ eq-eqb _ _
+    (from_fan _ v e n).1)) (λ a. let (d, n, t) = any_where _ ds a in
     any_at (λ e. is_on taken (prev_of e)) (next_of d) (fan_of faces v) (in_fan faces v (next_of d)
     (next_of_low faces d (low d n)) (eqb-true _ _ t)) (ap (is_on taken) (prev_of-next_of d) ∙ (is d ∙ n)))
 
@@ -190,10 +174,7 @@ module _ {faces : Faces} {x : EventState} {v : ℕ} (k : MaySettle faces x v) wh
 
   pub ends_now : (u : ℕ) → is_on (set x.settled v true) u ≡ true
       → (r : ℕ) × (d : ℕ) × (note_at x.noted r ≡ Some d) × (to_of faces d ≡ u)
-  ends_now u on =
-      let d = ends_then now.at v may u on in
-      let r = noted_where x.noted d.0 d.1 in
-      (r.0, d.0, r.2, d.2)
+  ends_now u on = let d = ends_then now.at v may u on in search (rules, noted_where)
 
 -- A noted dart is one that is ridden in the instant.
 pub noted_low_at : {faces : Faces} {x : EventState} → Reached faces x → (d : ℕ) → is_among d (darts_in x.noted) ≡ true
@@ -241,10 +222,6 @@ module _ {faces : Faces} {x : EventState} {v : ℕ} {notes : Notes} {site : Site
       by_site ∙ stop_same mesh (reached at) notes.taken.items (λ d. are.taken_is d ∙ ap (is_among d)
       (ap darts_in noted_is ∙ all_noted)) d (is_on x.stood v) (among_ridden d n) (then ∙ ap s.stood (sym e))
 
-  stop_now_is : (d : ℕ) → is_among d (darts_in x.noted) ≡ true → to_of faces d ≡ v
-      → stop_here faces site notes.taken.items d ≡ stop_of g (is_on x.stood) (darts_in x.noted) d
-  stop_now_is d n e = search (rules, stop_then, all_noted, then)
-
   -- Who goes on leaves its dart.
   leaves : (d : ℕ) → is_among d ds ≡ true → stop_of g s.stood ds d ≡ None → or_else (straight g d) d ≢ d
   leaves d n go same =
@@ -274,28 +251,23 @@ module _ {faces : Faces} {x : EventState} {v : ℕ} {notes : Notes} {site : Site
 
   -- Somebody stands at v from now on.
   stands_then : set x.stood v true ≡ (decided_at g x v).stood
-  stands_then = let (d, n, e) = some_end at v may in ap (set x.stood v) (sym (rw (then, all_noted)
-      (ap (step g s).stood (sym e) ∙ stands g (terrain faces mesh) (λ e. is_among e (start_darts faces))
-      (start g (start_darts faces)) s (reached at) d (among_ridden d n))))
+  stands_then = let (d, n, e) = some_end at v may in ap (set _ v) (sym (rw (then, all_noted)
+      (ap (step g s).stood (sym e) ∙ stands g (terrain _ mesh) _ _ s (reached at) d (among_ridden d n))))
 
   -- The riders told so are those of the settling.
   module _ {new : Riders} (counted : AreCounted new x.noted) (told_so : (r : ℕ) → rider_at new.list.items r
       ≡ told_by faces site notes.taken.items v (note_at x.noted r) (rider_at x.riders r)) where
     riders_are : new.list.items ≡ (decided_at g x v).riders
-    riders_are = ext_get_or (begun 0) new.list.items (decided_at g x v).riders
-        (sym counted.long ∙ (as_long now ∙ sym (told_long g (is_on x.stood) (darts_in x.noted) v x.riders x.noted
-        (as_long now)))) (λ r h. rw (
-          told_so r,
-          told_place g (is_on x.stood) (darts_in x.noted) v x.riders x.noted r
-              (as_long now),
-        ) (elim (cases_Option (note_at x.noted r)) [
-          | inl is ↦ rw is refl
-          | inr (d, is) ↦ elim (cases_eq (to_of faces d) v) [
-            | inl e ↦ rw (is, eq-eqb (to_of faces d) v e) (ap (told g d (rider_at x.riders r))
-                (stop_now_is d (noted_among x.noted r d is) e))
-            | inr ne ↦ rw (is, ne_eqb (to_of faces d) v ne) refl
-          ]
-        ]))
+    riders_are = ext_get_or (begun 0) new.list.items (decided_at g x v).riders (search (rules, told_long)) (λ r h. rw (
+      told_so r,
+      told_place g (is_on x.stood) (darts_in x.noted) v x.riders x.noted r (as_long now),
+    ) (elim (cases_Option (note_at x.noted r)) [
+      | inl is ↦ rw is refl
+      | inr (d, is) ↦ elim (cases_eq (to_of faces d) v) [
+        | inl e ↦ rw (is, eq-eqb (to_of faces d) v e) (search (rules, stop_then, all_noted, then, noted_among))
+        | inr ne ↦ rw (is, ne_eqb (to_of faces d) v ne) refl
+      ]
+    ]))
 
     pub still_wait : waiting x.riders x.noted ≡ waiting new.list.items x.noted
     still_wait = sym (rw riders_are (waiting_told g (is_on x.stood) (darts_in x.noted) v x.riders x.noted))
@@ -307,12 +279,14 @@ module _ {faces : Faces} {x : EventState} {v : ℕ} {notes : Notes} {site : Site
 
     -- The state, where the instant has ended and where it has not.
     pub settled_state : (over : Bool) → eqb new.untold 0 ≡ over → {noted : List (Option ℕ)} {settled : List Bool}
-        → noted ≡ cond over (replicate (length x.noted) None) x.noted → settled ≡ cond over (replicate
-        (length (set x.settled v true)) false) (set x.settled v true) → ◌≡◌ {A = EventState} (record {
+        → noted ≡ cond over (replicate (length x.noted) None) x.noted
+        → settled ≡ cond over (replicate (length (set x.settled v true)) false) (set x.settled v true)
+        → ◌≡◌ {A = EventState} (record {
           riders = new.list.items;
           stood = set x.stood v true;
           covered = x.covered;
-          noted = noted;
+          noted
+              = noted;
           settled = settled;
         }) (after_settling (terrain_of faces) x v)
     settled_state true e n t = rw (closes, e, riders_are, stands_then, n, t) refl

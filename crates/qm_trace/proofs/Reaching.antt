@@ -1,16 +1,14 @@
 -- The states that events reach on a mesh: what is noted, and how riders stand.
 use Rattle.std.proofs.Common.{rules, ◌≡◌, ℕ, zero, suc, ◌<◌, true, false, List, [], ◌∷◌, ◌++◌, length, None, sym, ap}
-use Rattle.std.proofs.Common.{◌∙◌, refl, arith}
-use Rattle.std.proofs.{lemmas.Option.none-some, lemmas.Bool.false_from_ne_true}
+use Rattle.std.proofs.{Common.◌∙◌, Common.refl, Common.arith, lemmas.Option.none-some, lemmas.Bool.false_from_ne_true}
 use Rattle.def_mesh.specs.{Faces.Faces, Darts.darts, Manifold.IsManifold, Vertices.vertex_count, Components.start_darts}
 use Rattle.def_cut.specs.Events.{EventState, darts_in, rider_at, note_at, may_ride, after_event, Event, May, Leads}
-use Rattle.def_cut.specs.Events.{first_event_state, rides_in, IsMotionOf}
-use Rattle.def_cut.specs.{Motion.Terrain, Motion.ridden, Motion.is_among, Motion.start, declared.moving.Moving.Moving}
-use Rattle.def_cut.specs.{Traced.terrain_of}
+use Rattle.def_cut.specs.{Events.rides_in, Events.IsMotionOf, declared.moving.Moving.Moving, Traced.terrain_of}
+use Rattle.def_cut.specs.Motion.{Terrain, ridden, is_among, start}
 use Rattle.motion_laws.proofs.Order.{IsWithin, noted_low, reached, rode, since, steps_few, within}
-use Rattle.motion_laws.proofs.{Among.AreApart, Marks.noted_where, Shown.apart_later, Shown.runs_ridden, Shown.bare}
-use Rattle.motion_laws.proofs.{Shown.waits_runs}
-use Rattle.{site_laws.proofs.Sites.course, qm_trace.proofs.Counting.begun_low, qm_trace.proofs.Counting.rides_low}
+use Rattle.motion_laws.proofs.Shown.{apart_later, runs_ridden, bare, waits_runs}
+use Rattle.{motion_laws.proofs.Among.AreApart, motion_laws.proofs.Marks.noted_where, site_laws.proofs.Sites.course}
+use Rattle.{qm_trace.proofs.Counting.begun_low, qm_trace.proofs.Counting.rides_low}
 
 -- One event more.
 pub leads_more : (g : Terrain) (a x : EventState) (es : List Event) (e : Event) → Leads g a es x → May g x e
@@ -18,17 +16,12 @@ pub leads_more : (g : Terrain) (a x : EventState) (es : List Event) (e : Event) 
 leads_more g a x [] e l may = (rw l may, ap (λ (y : EventState). after_event g y e) l)
 leads_more g a x (f ∷ es) e l may = (l.0, leads_more g (after_event g a f) x es e l.1 may)
 
--- At most one rider runs along a dart.
-not_twice : (q : Moving) (rs : List Moving) (j : ℕ) → q.stop ≡ None → AreApart (ridden (q ∷ rs)) → j < length rs
-    → (rider_at rs j).stop ≡ None → q.dart ≡ (rider_at rs j).dart → ⊥
-not_twice q rs j is a l runs e = search (rules, runs_ridden)
-
 one_rider_on : (rs : List Moving) → AreApart (ridden rs) → (i j : ℕ) → i < length rs → j < length rs
     → (rider_at rs i).stop ≡ None → (rider_at rs j).stop ≡ None → (rider_at rs i).dart ≡ (rider_at rs j).dart → i ≡ j
 one_rider_on [] a i j li lj ri rj e = absurd (omega arith)
 one_rider_on (q ∷ rs) a zero zero li lj ri rj e = refl
-one_rider_on (q ∷ rs) a zero (suc j) li lj ri rj e = absurd (not_twice q rs j ri a (omega arith) rj e)
-one_rider_on (q ∷ rs) a (suc i) zero li lj ri rj e = absurd (not_twice q rs i rj a (omega arith) ri (sym e))
+one_rider_on (q ∷ rs) a zero (suc j) li lj ri rj e = absurd (search (rules, runs_ridden))
+one_rider_on (q ∷ rs) a (suc i) zero li lj ri rj e = absurd (search (rules, runs_ridden))
 one_rider_on (q ∷ rs) a (suc i) (suc j) li lj ri rj e = ap suc
     (one_rider_on rs (apart_later q.stop q.dart (ridden rs) a) i j (omega arith) (omega arith) ri rj e)
 
@@ -45,10 +38,7 @@ reached_by {faces} m x z = record { mesh = m; led = z; at = within (course faces
 -- So does the state after one more.
 pub more_led : {faces : Faces} {x : EventState} → Reached faces x → (e : Event) → May (terrain_of faces) x e
     → IsMotionOf faces (after_event (terrain_of faces) x e)
-more_led {faces} {x} now e may = (
-  now.led.0 ++ e ∷ [],
-  leads_more (terrain_of faces) (first_event_state faces) x now.led.0 e now.led.1 may,
-)
+more_led {faces} {x} now e may = (now.led.0 ++ e ∷ [], leads_more (terrain_of faces) _ x _ e now.led.1 may)
 
 pub as_long : {faces : Faces} {x : EventState} → Reached faces x → length x.noted ≡ length x.riders
 as_long now = now.shown.riders.notes_long ∙ sym now.shown.riders.riders_long
@@ -82,9 +72,8 @@ module _ {faces : Faces} {x : EventState} {r : ℕ} (k : MayRide faces x r) wher
   ride_few = omega (
     arith,
     ap (λ (q : Moving). q.rides) as_begun,
-    rides_low (terrain_of faces) (start (terrain_of faces) (start_darts faces)) (begun_low (start_darts faces))
-        now.instant r,
-    steps_few (course faces mesh) now.instant rider.dart (rode at r low may).1,
+    rides_low (terrain_of faces) (start (terrain_of faces) _) (begun_low (start_darts faces)) now.instant r,
+    steps_few (course _ mesh) now.instant rider.dart (rode at r low may).1,
   )
 
   pub ride_runs : (rider_at x.riders r).stop ≡ None

@@ -1,26 +1,24 @@
 -- Marks at the darts of a list, one after another.
 use Rattle.std.proofs.Common.{rules, ◌≡◌, ℕ, ◌+◌, ◌<◌, Bool, true, false, cond, eqb, ◌||◌, List, [], ◌∷◌, ◌++◌, length}
 use Rattle.std.proofs.Common.{get_or, set, take, ap, ◌∙◌, refl, inl, inr, zero, suc, sym, arith, ◌≢◌, Option, Some}
-use Rattle.std.proofs.Common.{None, is_some}
-use Rattle.std.proofs.lemmas.Bool.{cases_eq, eq-eqb, or_right, eqb-true}
+use Rattle.std.proofs.{Common.None, Common.is_some, Math.Bool.or-false, Math.Bool.or_assoc}
+use Rattle.std.proofs.{lemmas.List.Folds.list_any-append, lemmas.List.Elements.filter-append}
+use Rattle.std.proofs.lemmas.Bool.{cases_eq, eq-eqb, or_right}
 use Rattle.std.proofs.lemmas.List.{take_more, get_or-set_same, get_or-set_other, length-set}
-use Rattle.std.proofs.{Math.Bool.or-false, Math.Bool.or_assoc, lemmas.List.Folds.list_any-append}
-use Rattle.std.proofs.{lemmas.List.Elements.filter-append}
-use Rattle.std.specs.List.{list_any, range_with_len, filter}
-use Rattle.def_cut.specs.{FullCut.is_on, Events.rider_at, Events.more_if, Events.note_at, Events.told, Motion.is_among}
-use Rattle.def_cut.specs.{Motion.begun, Motion.or_else, Motion.straight, declared.moving.Moving.Moving}
-use Rattle.def_cut.specs.{declared.graph.Stop.Stop, Traced.terrain_of}
-use Rattle.def_mesh.specs.{Faces.Faces, Darts.darts, Darts.from_of, Darts.next_of, Darts.prev_of, Darts.to_of}
-use Rattle.def_mesh.specs.{Vertices.fan_of}
-use Rattle.motion_laws.proofs.{Among.apart_filter, Among.range_apart, Among.cases_Option, Marks.among_at}
-use Rattle.motion_laws.proofs.{Marks.noted_among, Marks.noted_where}
+use Rattle.def_cut.specs.{FullCut.is_on, declared.moving.Moving.Moving, declared.graph.Stop.Stop, Traced.terrain_of}
+use Rattle.def_cut.specs.Events.{rider_at, more_if, note_at, told}
+use Rattle.def_cut.specs.Motion.{is_among, begun, or_else, straight}
+use Rattle.def_mesh.specs.Darts.{darts, from_of, next_of, prev_of, to_of}
+use Rattle.motion_laws.proofs.Among.{apart_filter, range_apart, cases_Option}
+use Rattle.motion_laws.proofs.Marks.{among_at, noted_among, noted_where}
 use Rattle.qm_trace.specs.Motions.{AreNotes, CanTell, is_untold, runs_on, told_along, told_by, AreCounted, MayTell}
-use Rattle.qm_trace.specs.{Tables.AreEachOnce, Tables.AreRode, Tables.rode, Tables.is_running, Tables.stop_here}
 use Rattle.qm_trace.specs.{declared.ground.Site.Site, declared.notes.Notes.Notes, declared.telling.Riders.Riders}
+use Rattle.qm_trace.specs.Tables.{AreEachOnce, AreRode, rode, is_running, stop_here}
 use Rattle.mesh_laws.proofs.Chains.{next_of-prev_of, next_of_low, fan_of_is}
-use Rattle.feature_laws.proofs.Breaks.{from_fan, in_fan}
-use Rattle.qm_trace.proofs.{Counting.tally_rider, Counting.tally_some}
-use Rattle.{list_laws.proofs.Filters.range_more, sum_laws.proofs.Tests.same_test}
+use Rattle.{std.specs.List.list_any, std.specs.List.range_with_len, std.specs.List.filter, def_mesh.specs.Faces.Faces}
+use Rattle.{def_mesh.specs.Vertices.fan_of, feature_laws.proofs.Breaks.from_fan, feature_laws.proofs.Breaks.in_fan}
+use Rattle.{qm_trace.proofs.Counting.tally_rider, qm_trace.proofs.Counting.tally_some}
+use Rattle.list_laws.proofs.Filters.{range_more}
 
 -- One more at the end of a list.
 pub any_snoc : (p : ℕ → Bool) (xs : List ℕ) (x : ℕ) → list_any p (xs ++ x ∷ []) ≡ (list_any p xs || p x)
@@ -111,11 +109,7 @@ module _ {faces : Faces} {site : Site} {notes : Notes} {riders : Riders} {r : �
       → AreCounted new notes.noted.items
   told_counted b list less is fewer = record {
     long = rw list (counted.long ∙ sym (length-set rs r then));
-    running = rw list (omega (
-      arith,
-      rw is at (runs stop),
-      rw was.0 at (tally_rider runs_on rs noted r then may.rider noted_low),
-    ));
+    running = search (rules, runs, tally_rider);
     untold = rw list (omega (
       arith,
       rw (may.untold, ended stop may.onward) at (tally_rider is_untold rs noted r then may.rider noted_low),
@@ -131,17 +125,14 @@ module _ {faces : Faces} {site : Site} {notes : Notes} {riders : Riders} {r : �
       ended o f = search rules
 
 -- Whoever is told along the whole fan is told at the vertex.
-pub told_all_along : {faces : Faces} {site : Site} {v : ℕ} {notes : Notes} {old : Riders}
-    → CanTell faces site v notes old → (r : ℕ) (rider : Moving)
-    → told_along faces site notes.taken.items (fan_of faces v) (note_at notes.noted.items r) rider
-    ≡ told_by faces site notes.taken.items v (note_at notes.noted.items r) rider
+pub told_all_along : {faces : Faces} {site : Site} {v : ℕ} {notes : Notes} {old : Riders} → CanTell faces site v notes
+    old → (r : ℕ) (rider : Moving) → told_along faces site notes.taken.items (fan_of faces v)
+    (note_at notes.noted.items r) rider ≡ told_by faces site notes.taken.items v (note_at notes.noted.items r) rider
 told_all_along {faces} {site} {v} {notes} can r rider = elim (cases_Option (note_at notes.noted.items r)) [
   | inl is ↦ rw is refl
   | inr (d, is) ↦
       let low = next_of_low faces d (can.low d (noted_among notes.noted.items r d is)) in
-      let has : is_among (next_of d) (fan_of faces v) ≡ eqb (to_of faces d) v = same_test _ _
-      (λ a. eq-eqb _ _ (from_fan faces v (next_of d) a).1) (λ e. in_fan faces v (next_of d) low (eqb-true _ _ e)) in
-      rw (is, has) refl
+      search (rules, from_fan, in_fan)
 ]
 
 -- The turn of the dart at place i of the fan.

@@ -5,10 +5,9 @@ use Rattle.{std.specs.List.before_first}
 use Rattle.qm_obj.proofs.joining.join.Goals as goal
 
 -- The last line is read.
-last : (c : After-goes_on) → c.goes_on.result ≡ false → let rest = c.args.rest.now in
-    IsJoined (lines_of rest.lines.now) rest.first (c.loop-next.next + 1) rest.after
-    (c.loop-next.bytes.items ++ before_first is_hash c.line-line.result.now)
-    (length c.loop-next.bytes.items + length c.line-line.result.now)
+last : (c : After-goes_on) → c.goes_on.result ≡ false → let rest = c.args.rest.now in IsJoined (lines_of rest.lines.now)
+    rest.first (c.loop-next.next + 1) rest.after (c.loop-next.bytes.items ++ before_first is_hash
+    c.line-line.result.now) (length c.loop-next.bytes.items + length c.line-line.result.now)
 last c off = joined_last c.loop-next-test.true c.args.rest.now.within c.line-line.ensures c.loop-next.invariant
     (sym c.goes_on.ensures ∙ off)
 

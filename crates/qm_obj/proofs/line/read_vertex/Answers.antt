@@ -26,10 +26,9 @@ returns-in_default c =
     (and_right _ _ (read_bad c.words.invariant next (sym c.read_coordinate.ensures ∙ c.in_default.is)))
 
 -- Where no word is left, the line says this.
-said : (c : After-is_empty) → c.is_empty.result ≡ true
-    → vertex_reading c.args.line c.args.vertices (words (uncommented c.args.text.now))
-    ≡ cond (is_position_count c.words.count) (option_map_or Position (all_near c.words.slots)
-    (Refused (Range c.args.line))) (Refused (Syntax c.args.line))
+said : (c : After-is_empty) → c.is_empty.result ≡ true → vertex_reading c.args.line c.args.vertices
+    (words (uncommented c.args.text.now)) ≡ cond (is_position_count c.words.count)
+    (option_map_or Position (all_near c.words.slots) (Refused (Range c.args.line))) (Refused (Syntax c.args.line))
 said c empty = vertex_read c.args.line c.args.vertices (words (uncommented c.args.text.now)) (omega arith)
     (all_read c.words.invariant _ _ c.next_word.ensures.first c.is_empty.ensures empty)
 

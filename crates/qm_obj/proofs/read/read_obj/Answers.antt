@@ -8,9 +8,8 @@ loop-i-init c = rw (c.new-reader.ensures.positions, c.new-reader.ensures.faces, 
     (at_start (lines_of c.args.lines.now) c.args.first c.args.after c.requires.order)
 
 pub returns-clause-soup : goal.returns-clause-soup
-returns-clause-soup c =
-    rw (at_end c.loop-i.invariant c.loop-i-test.false)
-    (finished_soup c.loop-i.reader.fits c.finish.result c.finish.ensures.soup)
+returns-clause-soup c = rw (at_end c.loop-i.invariant c.loop-i-test.false) (finished_soup c.loop-i.reader.fits _
+    c.finish.ensures.soup)
 
 pub returns-clause-few : goal.returns-clause-few
 returns-clause-few c = finished_few c.loop-i.reader.fits c.finish.result c.finish.ensures.soup
@@ -20,11 +19,9 @@ returns-clause-refused c = rw (at_end c.loop-i.invariant c.loop-i-test.false)
     (finished_refused c.loop-i.reader.fits c.finish.result c.finish.ensures.late)
 
 pub loop-i-preserved : goal.loop-i-preserved
-loop-i-preserved c =
-    at_next c.loop-i.invariant c.loop-i.reader.fits c.loop-i-test.true c.requires.within
+loop-i-preserved c = at_next c.loop-i.invariant c.loop-i.reader.fits c.loop-i-test.true c.requires.within
     c.in_ok-i.ensures.next c.in_ok-i.ensures.kept
 
 pub returns-in_err-i-clause-refused : goal.returns-in_err-i-clause-refused
-returns-in_err-i-clause-refused c = handed _ _ _ c.from_residual.ensures.1 (λ other.
-    at_refused c.loop-i.invariant c.loop-i.reader.fits c.loop-i-test.true c.requires.within
-    (c.in_err-i.ensures.refused other))
+returns-in_err-i-clause-refused c = handed _ _ _ c.from_residual.ensures.1 (λ other. at_refused c.loop-i.invariant
+    c.loop-i.reader.fits c.loop-i-test.true c.requires.within (c.in_err-i.ensures.refused other))

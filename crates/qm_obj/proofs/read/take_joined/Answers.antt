@@ -8,9 +8,8 @@ pub take-requires : goal.take-requires
 take-requires c = search (rules, joined_short)
 
 -- The line that is read is the first logical one.
-same : (c : After-deref) → let rest = c.args.rest.now in
-    line_as (rest.first + 1) c.in_ok-joined.joined.size c.deref.result.now
-    ≡ first_logical (rest.first + 1) (slice_range (lines_of rest.lines.now) rest.first rest.after)
+same : (c : After-deref) → let rest = c.args.rest.now in line_as (rest.first + 1) c.in_ok-joined.joined.size
+    c.deref.result.now ≡ first_logical (rest.first + 1) (slice_range (lines_of rest.lines.now) rest.first rest.after)
 same c =
     let rest = c.args.rest.now in
     joined_logical (slice_range (lines_of rest.lines.now) rest.first rest.after) (rest.first + 1)

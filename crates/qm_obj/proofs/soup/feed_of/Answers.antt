@@ -1,12 +1,11 @@
-use Rattle.std.proofs.Common.{rules, Err, ap, arith, ◌+◌, ◌-◌, ◌∙◌, ◌≡◌}
+use Rattle.std.proofs.Common.{rules, arith, ◌+◌, ◌-◌, ◌∙◌, ◌≡◌}
 use Rattle.qm_obj.proofs.FeedLemmas.{fed_more, fed_whole, gave_beyond}
-use Rattle.{std.specs.List.length_refill, error_laws.proofs.Errors.same_error}
+use Rattle.std.specs.List.{length_refill}
 use Rattle.qm_obj.proofs.soup.feed_of.Goals as goal
 
 pub returns-in_err-count-clause-too_long : goal.returns-in_err-count-clause-too_long
 returns-in_err-count-clause-too_long g c = λ said.
-    let more = c.in_err-count.ensures.too_long
-    (ap Err (same_error _ _ _ c.from_residual-in_err-count.ensures.1 said)) in
+    let more = c.in_err-count.ensures.too_long (search rules) in
     let so_far = c.pieces.invariant in
     (gave_beyond {limit = c.args.limit} {room = c.pieces.room} so_far.fed so_far.short more.0, more.1 ∙ so_far.calm)
 
@@ -17,7 +16,6 @@ returns-then-count-eq0-clause-whole g c = fed_whole (fed_more c.pieces.invariant
 pub pieces-preserved : goal.pieces-preserved
 pieces-preserved g c =
     let so_far = c.pieces.invariant in
-    let buffer = c.pieces.buffer in
     let many : c.args.limit - (c.pieces.room - c.in_ok-count.count)
     ≡ c.args.limit - c.pieces.room + c.in_ok-count.count = omega (arith, so_far.short, c.in_ok-count.ensures.fits) in
     record {

@@ -1,4 +1,4 @@
-use Rattle.std.proofs.Common.{Some, ap, refl}
+use Rattle.std.proofs.Common.{rules, Some, ap, refl}
 use Rattle.qm_trace.proofs.Fewer.{rides, settles, ride_less, settle_less}
 use Rattle.qm_trace.proofs.choosing.finish.Goals as goal
 
@@ -12,5 +12,4 @@ events-smaller-in-Ride c =
 pub events-smaller : goal.events-smaller
 events-smaller c =
     let may = c.in-Some.ensures.settles c.in-Settle.vertex (ap Some c.in-Settle.is) in
-    rw c.settle.ensures.event (settle_less
-    (settles c.faces-known.ensures.mesh.manifold refl c.events.invariant.motion c.in-Settle.vertex may))
+    rw c.settle.ensures.event (search (rules, settle_less, settles))

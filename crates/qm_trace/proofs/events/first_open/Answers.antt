@@ -1,36 +1,29 @@
-use Rattle.std.proofs.Common.{rules, ◌≡◌, ◌<◌, ◌+◌, ℕ, true, get_or, take, Some, is_some, sym, subst, ap, ◌∙◌}
-use Rattle.std.proofs.{lemmas.Bool.eq-eqb, lemmas.Bool.eqb-true, lemmas.Bool.or_cases, lemmas.List.take_all}
-use Rattle.std.proofs.{lemmas.Option.same_Some}
-use Rattle.def_cut.specs.{Events.darts_in, Events.leads_to, Events.note_at, FullCut.is_on, Motion.end_of}
+use Rattle.std.proofs.Common.{rules, ◌≡◌, ◌+◌, ℕ, true, get_or, take, Some, is_some, ap, ◌∙◌}
+use Rattle.std.proofs.{lemmas.Bool.eqb-true, lemmas.Bool.or_cases, lemmas.List.take_all}
+use Rattle.def_cut.specs.{Events.darts_in, Events.leads_to, Events.note_at, FullCut.is_on}
 use Rattle.def_cut.specs.{Motion.is_among, Traced.terrain_of}
 use Rattle.motion_laws.proofs.{Among.any_at, Marks.among_at, Marks.noted_among, Marks.noted_short}
-use Rattle.{def_mesh.specs.Darts.darts, def_mesh.specs.Darts.to_of, qm_trace.proofs.Tellings.among_more}
+use Rattle.{def_mesh.specs.Darts.to_of, qm_trace.proofs.Tellings.among_more}
 use Rattle.qm_trace.proofs.events.first_open.Goals as goal
 
 pub bounds-noted-r : goal.bounds-noted-r
 bounds-noted-r c =
-    let q = c.requires.notes (get_or c.args.queue.now c.queue.r-index 0)
-    (among_at c.args.queue.now c.queue.r-index c.queue-test.true) in
-    noted_short c.args.noted.now (get_or c.args.queue.now c.queue.r-index 0) q.0 q.1
+    let q = c.requires.notes (get_or c.args.queue.now c.queue.r-index 0) (among_at _ _ c.queue-test.true) in
+    noted_short _ _ _ q.1
 
 pub unwrap-d-requires : goal.unwrap-d-requires
 unwrap-d-requires c =
-    let q = c.requires.notes (get_or c.args.queue.now c.queue.r-index 0)
-    (among_at c.args.queue.now c.queue.r-index c.queue-test.true) in
+    let q = c.requires.notes (get_or c.args.queue.now c.queue.r-index 0) (among_at _ _ c.queue-test.true) in
     ap is_some q.1
 
 pub to-vertex-requires : goal.to-vertex-requires
 to-vertex-requires c =
-    let q = c.requires.notes (get_or c.args.queue.now c.queue.r-index 0)
-    (among_at c.args.queue.now c.queue.r-index c.queue-test.true) in
-    let dart : c.unwrap-d.result ≡ q.0 = same_Some _ _ (sym c.unwrap-d.ensures ∙ q.1) in
-    subst (λ d. d < darts c.args.mesh.now) (sym dart) q.2
+    let q = c.requires.notes (get_or c.args.queue.now c.queue.r-index 0) (among_at _ _ c.queue-test.true) in
+    search rules
 
 pub returns-then-not-settled-vertex-clause-end : goal.returns-then-not-settled-vertex-clause-end
-returns-then-not-settled-vertex-clause-end c =
-    any_at (leads_to (terrain_of c.args.mesh.now) c.to-vertex.result) c.unwrap-d.result (darts_in c.args.noted.now)
-    (noted_among c.args.noted.now (get_or c.args.queue.now c.queue.r-index 0) c.unwrap-d.result c.unwrap-d.ensures)
-    (eq-eqb (end_of (terrain_of c.args.mesh.now) c.unwrap-d.result) c.to-vertex.result (sym c.to-vertex.ensures.value))
+returns-then-not-settled-vertex-clause-end c = any_at (leads_to (terrain_of c.args.mesh.now) c.to-vertex.result)
+    c.unwrap-d.result (darts_in c.args.noted.now) (search (rules, noted_among)) (search rules)
 
 -- The notes of the riders up to this one end at settled vertices.
 up_to : (c : goal.Else-not-settled-vertex) (r d : ℕ) → is_among r (take (c.queue.r-index + 1) c.args.queue.now) ≡ true
@@ -43,6 +36,5 @@ pub queue-preserved : goal.queue-preserved
 queue-preserved c = record { none = up_to c }
 
 pub returns-clause-none : goal.returns-clause-none
-returns-clause-none c r d among note =
-    c.queue.invariant.none r d (ap (is_among r) (take_all c.queue.r-index c.args.queue.now c.queue-test.false) ∙ among)
-    note
+returns-clause-none c r d among note = c.queue.invariant.none r d
+    (ap (is_among r) (take_all c.queue.r-index c.args.queue.now c.queue-test.false) ∙ among) note

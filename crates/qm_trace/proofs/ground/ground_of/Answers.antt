@@ -8,5 +8,4 @@ loop-v-preserved c = search (rules, map_more)
 pub returns : goal.returns
 returns c =
     let e : c.loop-v.v ≡ vertex_count c.args.mesh.now = omega arith in
-    ground_is c.args.mesh.now c.loop-v.boundary.items c.loop-v.singular.items (rw (← e) c.loop-v.invariant.boundary)
-    (rw (← e) c.loop-v.invariant.singular)
+    ground_is _ _ _ (rw (← e) c.loop-v.invariant.boundary) (rw (← e) c.loop-v.invariant.singular)

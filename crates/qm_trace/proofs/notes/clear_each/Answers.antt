@@ -1,7 +1,6 @@
-use Rattle.std.proofs.{Common.false, Common.None, Common.is_some, Common.ap, Common.◌∙◌, Common.arith}
-use Rattle.std.proofs.{lemmas.List.length-set}
-use Rattle.def_mesh.specs.Darts.{to_of}
+use Rattle.std.proofs.Common.{false, None, is_some, ap, ◌∙◌, arith}
 use Rattle.qm_trace.proofs.Noting.{ends_back, marks_back, taken_back, back_short, dart_read, note_back, note_read}
+use Rattle.{std.proofs.lemmas.List.length-set, def_mesh.specs.Darts.to_of}
 use Rattle.qm_trace.proofs.notes.clear_each.Goals as goal
 
 pub index-requires : goal.index-requires

@@ -1,5 +1,4 @@
 use Rattle.mesh_laws.proofs.Chains.{is_fan}
 
 pub prev-requires : Rattle.qm_trace.proofs.telling.is_end.Goals.prev-requires
-prev-requires c = (is_fan c.args.mesh.now c.args.v c.fan-e-items.result.now c.fan-e-items.ensures).dart c.loop-e.e-index
-    c.loop-e-test.true
+prev-requires c = (is_fan _ _ _ c.fan-e-items.ensures).dart c.loop-e.e-index c.loop-e-test.true

@@ -1,14 +1,12 @@
 use Rattle.std.proofs.Common.{rules, ◌≡◌, ◌<◌, false, length, sym, ap, ◌∙◌, arith}
-use Rattle.std.proofs.lemmas.List.{get_or_default, length-set, take_all}
-use Rattle.def_cut.specs.{FullCut.is_on, Events.rider_at}
 use Rattle.qm_trace.proofs.Tellings.{none_here, noted_here, one_here, told_all_along, Turn, may_tell}
 use Rattle.qm_trace.proofs.telling.tell_all.Goals.{After-index, then-index, else-index}
-use Rattle.{mesh_laws.proofs.Chains.is_fan, def_mesh.specs.Vertices.fan_of}
+use Rattle.{std.proofs.lemmas.List.get_or_default, std.proofs.lemmas.List.take_all, def_cut.specs.FullCut.is_on}
+use Rattle.{def_cut.specs.Events.rider_at, mesh_laws.proofs.Chains.is_fan, def_mesh.specs.Vertices.fan_of}
 use Rattle.qm_trace.proofs.telling.tell_all.Goals as goal
 
 pub prev-d-requires : goal.prev-d-requires
-prev-d-requires c = (is_fan c.args.mesh.now c.args.v c.fan-e-items.result.now c.fan-e-items.ensures).dart
-    c.loop-e.e-index c.loop-e-test.true
+prev-d-requires c = (is_fan _ _ _ c.fan-e-items.ensures).dart c.loop-e.e-index c.loop-e-test.true
 
 turn : (c : After-index) → Turn c.args.mesh.now c.args.site c.args.v c.args.notes.now c.args.riders.now
     c.loop-e.riders.list.items c.loop-e.e-index c.prev-d.result
@@ -39,8 +37,7 @@ loop-e-preserved c =
           rw w.riders-is (record {
             told = λ r. rw w.tell_one.ensures.list (one_here (turn at) on place low r);
             counted = w.tell_one.ensures.counted;
-            many = rw w.tell_one.ensures.list
-                (length-set c.loop-e.riders.list.items w.index-then-index.result.now _ ∙ c.loop-e.invariant.many);
+            many = search rules;
           })
       | else-index w ↦ rw w.riders-is (record {
         told = none_here (turn at) (sym (mark at) ∙ w.if-index.false);

@@ -21,11 +21,7 @@ returns c =
     let covered = c.close-covered.ensures ∙ cut_is c.args.mesh.now (marked_last c.args.mesh.now c.args.marks.now)
     c.in_ok-end.end.covered.items c.in_ok-end.ensures.covered_is in
     record {
-      graph = record {
-        covered = covered;
-        riders = rw (c.deref.ensures.value ∙ c.in_ok-end.ensures.riders_are, c.requires.starts)
-            at c.tell_riders.ensures;
-      };
+      graph = search rules;
       cut = rw covered
           (marked_law c.args.mesh.now c.args.marks.now c.faces-known.ensures.mesh.manifold c.requires.marks).full;
     }

@@ -1,9 +1,8 @@
-use Rattle.std.proofs.Common.{rules, ◌≡◌, length, sym, ap, ◌∙◌, arith, ◌+◌, suc}
-use Rattle.{std.proofs.lemmas.Bool.eqb-true, qm_trace.specs.Tables.state_at}
+use Rattle.std.proofs.Common.{rules, ◌≡◌, sym, ap, ◌∙◌, arith, ◌+◌, suc}
 use Rattle.qm_trace.proofs.Ends.{all_over, end_at, first_on, next_on, next_queue, none_ride, queue_low, some_wait}
-use Rattle.qm_trace.proofs.Ends.{first_queue}
 use Rattle.qm_trace.proofs.tracing.last_tables.Goals.{else-instants-test, then-instants-test+then-is_empty}
-use Rattle.{std.specs.Vec.vec_len, def_mesh.specs.Vertices.vertex_count}
+use Rattle.{qm_trace.specs.Tables.state_at, qm_trace.proofs.Ends.first_queue, std.specs.Vec.vec_len}
+use Rattle.def_mesh.specs.Vertices.{vertex_count}
 use Rattle.qm_trace.proofs.tracing.last_tables.Goals as goal
 
 pub instants-init : goal.instants-init
@@ -40,10 +39,6 @@ returns c = elim c.instants-test.branch [
       end_at c.instants.invariant.at c.instants.invariant.way (omega (arith, over))
       (all_over c.faces-known.ensures.mesh.manifold c.args.course.now.lines (c.instants.invariant.at.riders_are
       ∙ ap (λ k. (state_at c.args.course.now.mesh.now c.args.course.now.marks.now k).riders) over))
-  | then-instants-test+then-is_empty w ↦
-      let none : length c.instants.queue.items ≡ 0 =
-      omega (arith, eqb-true (vec_len c.instants.queue) 0 (sym w.is_empty.ensures ∙ w.if-is_empty.true)) in
-      end_at c.instants.invariant.at c.instants.invariant.way
-      (omega (arith, w.instants-test.true, c.vertices-end.ensures.value))
-      (none_ride c.instants.tables.riders.items c.instants.queue.items c.instants.invariant.waits none)
+  | then-instants-test+then-is_empty w ↦ end_at c.instants.invariant.at c.instants.invariant.way
+      (omega (arith, w.instants-test.true, c.vertices-end.ensures.value)) (search (rules, none_ride))
 ]

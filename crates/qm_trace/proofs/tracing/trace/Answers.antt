@@ -6,5 +6,4 @@ pub returns-clause-graph : Rattle.qm_trace.proofs.tracing.trace.Goals.returns-cl
 returns-clause-graph c =
     let items : c.in_ok-marks.marks.items ≡ replicate (darts c.args.mesh.now) false = search rules in
     IfOk-weaker c.graph_from.result (IsMarkedGraph c.args.mesh.now c.deref-2.result.now) (IsGraphOf c.args.mesh.now)
-    (λ graph g. same_graph c.args.mesh.now graph
-    (rw (← (c.deref-2.ensures.value ∙ items)) g)) c.graph_from.ensures.graph
+    (λ graph g. same_graph _ _ (rw (← (c.deref-2.ensures.value ∙ items)) g)) c.graph_from.ensures.graph

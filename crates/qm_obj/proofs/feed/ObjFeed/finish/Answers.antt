@@ -1,6 +1,5 @@
-use Rattle.qm_obj.proofs.{FeedLemmas.stands_end, FeedLemmas.refused_as, FeedLemmas.stands_stopped}
-use Rattle.std.proofs.{Common.◌≡◌, Common.Ok, Common.[], lemmas.Result.IfOk-weaker}
-use Rattle.{qm_obj.specs.Views.kept_at, def_feed.specs.Kept.soup_with}
+use Rattle.qm_obj.proofs.FeedLemmas.{stands_end, refused_as, stands_stopped}
+use Rattle.{std.proofs.Common.rules, std.proofs.lemmas.Result.IfOk-weaker}
 use Rattle.qm_obj.proofs.feed.ObjFeed.finish.Goals as goal
 
 pub returns-in-Some-clause-refused : goal.returns-in-Some-clause-refused
@@ -8,8 +7,7 @@ returns-in-Some-clause-refused c = λ _. rw (← c.self.view_is) (λ text stands
 
 pub returns-clause-soup : goal.returns-clause-soup
 returns-clause-soup c = rw (← c.self.view_is)
-    (IfOk-weaker c.finish.result _ _ (λ s (is : soup_with (kept_at c.self.inside.progress) [] ≡ Ok s) text stands.
-    stands_end c.in_default.is is stands) c.finish.ensures.soup)
+    (IfOk-weaker c.finish.result _ _ (search (rules, stands_end)) c.finish.ensures.soup)
 
 pub returns-clause-refused : goal.returns-clause-refused
 returns-clause-refused c = rw (← c.self.view_is) (refused_as c.finish.result c.finish.ensures.refused

@@ -1,49 +1,35 @@
-use Rattle.qm_obj.proofs.FeedLemmas.{ended_line, is_nothing, is_something, long_line, number_some, refused_line}
-use Rattle.qm_obj.proofs.{PrefixLemmas.behind_alone, PrefixLemmas.behind_joined, joiner.Joiner.end.Goals.After-deref}
-use Rattle.std.proofs.{Common.[], Common.arith, Common.◌++◌, Common.◌∙◌, Common.◌≡◌}
-use Rattle.{def_text.specs.Logical.is_hash, error_laws.proofs.Errors.handed, qm_obj.proofs.FeedLemmas.sound_of}
-use Rattle.{qm_obj.specs.Views.kept_of, std.specs.List.before_first}
+use Rattle.std.proofs.Common.{rules, [], arith}
+use Rattle.qm_obj.proofs.FeedLemmas.{ended_line, is_nothing, is_something, long_line, refused_line, sound_of}
+use Rattle.qm_obj.proofs.{PrefixLemmas.behind_alone, PrefixLemmas.behind_joined}
+use Rattle.{error_laws.proofs.Errors.handed, qm_obj.specs.Views.kept_of}
 use Rattle.qm_obj.proofs.joiner.Joiner.end.Goals as goal
 
 pub returns-in_err-take-clause-refused : goal.returns-in_err-take-clause-refused
 returns-in_err-take-clause-refused c =
     let self = c.args.self.now in
-    handed _ _ _ c.from_residual.ensures.1 (λ other. refused_line (sound_of self) c.args.line.now
-    (behind_alone (kept_of self []) c.args.line.now c.requires.ends (is_nothing c.if-is_empty.ensures self.joined.ok.0))
-    (c.in_err-take.ensures.refused other))
+    handed _ _ _ c.from_residual.ensures.1 (λ other. refused_line (sound_of self) _ (behind_alone (kept_of self []) _
+    c.requires.ends (is_nothing c.if-is_empty.ensures self.joined.ok.0)) (c.in_err-take.ensures.refused other))
 
 pub returns-then-is_empty-clause-took : goal.returns-then-is_empty-clause-took
 returns-then-is_empty-clause-took c =
     let self = c.args.self.now in
     let none = is_nothing c.if-is_empty.ensures self.joined.ok.0 in
-    ended_line (sound_of self) none (behind_alone (kept_of self []) c.args.line.now c.requires.ends none)
-    c.in_ok-take.ensures.kept
+    ended_line (sound_of self) none (behind_alone (kept_of self []) _ c.requires.ends none) c.in_ok-take.ensures.kept
 
 pub returns-then-size-gt-MAX_LINE-clause-refused : goal.returns-then-size-gt-MAX_LINE-clause-refused
 returns-then-size-gt-MAX_LINE-clause-refused c = λ _.
     let old = c.args.self.now in
-    rw c.too_long.ensures (long_line (sound_of old) c.args.line.now
-    (number_some old.joined.items old.next old.begun (is_something _ c.if-is_empty.ensures old.joined.ok.0))
-    (omega arith))
-
--- The bytes that are read.
-text : (c : After-deref) → c.deref.result.now ≡ c.args.self.now.joined.items ++ before_first is_hash c.args.line.now
-text c = cc (c.deref.ensures.value, c.in_ok-append.ensures.grown, c.before_comment.ensures)
+    rw c.too_long.ensures (long_line (sound_of old) c.args.line.now (search rules) (omega arith))
 
 pub returns-in_err-read-clause-refused : goal.returns-in_err-read-clause-refused
 returns-in_err-read-clause-refused c =
     let self = c.args.self.now in
     handed _ _ _ c.from_residual-in_err-read.ensures.1 (λ other. refused_line (sound_of self) c.args.line.now
-    (behind_joined (kept_of self []) c.args.line.now c.requires.ends
-    (is_something _ c.if-is_empty.ensures self.joined.ok.0) self.bare)
-    (rw (c.len.ensures ∙ self.joined.ok.0, text (goal.at.returns-in_err-read-clause-refused c).After-deref)
-    at (c.in_err-read.ensures.refused other)))
+    (behind_joined (kept_of self []) c.args.line.now c.requires.ends (is_something _ c.if-is_empty.ensures
+    self.joined.ok.0) self.bare) (search rules))
 
 pub returns-clause-took : goal.returns-clause-took
 returns-clause-took c =
     let self = c.args.self.now in
-    ended_line (sound_of self) c.clear.ensures.items
-    (behind_joined (kept_of self []) c.args.line.now c.requires.ends
-    (is_something _ c.if-is_empty.ensures self.joined.ok.0) self.bare)
-    (rw (c.len.ensures ∙ self.joined.ok.0, text (goal.at.returns-clause-took c).After-deref)
-    at c.in_ok-read.ensures.kept)
+    ended_line (sound_of self) c.clear.ensures.items (behind_joined (kept_of self []) c.args.line.now c.requires.ends
+    (is_something _ c.if-is_empty.ensures self.joined.ok.0) self.bare) (search rules)

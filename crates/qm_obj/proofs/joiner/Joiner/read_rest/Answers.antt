@@ -1,17 +1,16 @@
+use Rattle.std.proofs.Common.{rules}
 use Rattle.qm_obj.proofs.FeedLemmas.{is_nothing, is_something, last_refused, last_same, nothing_joined, sound_of}
 use Rattle.{error_laws.proofs.Errors.handed, qm_obj.specs.Views.kept_of, std.proofs.Common.[], std.proofs.Common.◌∙◌}
 use Rattle.qm_obj.proofs.joiner.Joiner.read_rest.Goals as goal
 
 pub returns-then-is_empty-clause-same : goal.returns-then-is_empty-clause-same
-returns-then-is_empty-clause-same c =
-    nothing_joined (kept_of c.args.self.now []) (is_nothing c.if-is_empty.ensures c.args.self.now.joined.ok.0)
+returns-then-is_empty-clause-same c = nothing_joined (kept_of c.args.self.now []) (search (rules, is_nothing))
 
 pub returns-in_err-take-clause-refused : goal.returns-in_err-take-clause-refused
 returns-in_err-take-clause-refused c =
     let joined = c.args.self.now.joined in
-    handed _ _ _ c.from_residual.ensures.1 (λ other.
-    last_refused (sound_of c.args.self.now) (is_something _ c.if-is_empty.ensures joined.ok.0)
-    (rw (c.len.ensures ∙ joined.ok.0, c.deref.ensures.value) at (c.in_err-take.ensures.refused other)))
+    handed _ _ _ c.from_residual.ensures.1 (λ other. last_refused (sound_of c.args.self.now)
+    (is_something _ c.if-is_empty.ensures joined.ok.0) (search rules))
 
 pub returns-clause-same : goal.returns-clause-same
 returns-clause-same c =

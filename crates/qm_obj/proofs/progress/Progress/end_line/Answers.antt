@@ -7,9 +7,8 @@ use Rattle.qm_obj.proofs.progress.Progress.end_line.Goals as goal
 pub returns-then-is_empty-clause-took : goal.returns-then-is_empty-clause-took
 returns-then-is_empty-clause-took c =
     let none = is_nothing c.if-is_empty.ensures c.args.self.now.tail.ok.0 in
-    on_ok_weaker _
-    (λ took. fed_piece (sound_at c.args.self.now) _ c.requires.unended (rw none c.line_of.ensures) none took)
-    c.take.ensures.took
+    on_ok_weaker _ (λ took. fed_piece (sound_at c.args.self.now) _ c.requires.unended (rw none c.line_of.ensures) none
+    took) c.take.ensures.took
 
 pub returns-then-is_empty-clause-refused : goal.returns-then-is_empty-clause-refused
 returns-then-is_empty-clause-refused c =

@@ -9,10 +9,9 @@ line : (c : After-line_of) → c.line_of.result.now ≡ line_of (c.args.self.now
 line c = rw (append-nil c.args.self.now.tail.items, ← c.deref.ensures.value) c.line_of.ensures
 
 pub returns-clause-took : goal.returns-clause-took
-returns-clause-took c = on_ok_weaker c.take-taken.result
-    (λ took. fed_piece (sound_at c.args.self.now) {new = kept_of c.take-taken.new.self c.clear.new.self.items} [] refl
-    (line (goal.at.returns-clause-took c).After-line_of) c.clear.ensures.items took)
-    c.take-taken.ensures.took
+returns-clause-took c = on_ok_weaker c.take-taken.result (λ took. fed_piece (sound_at c.args.self.now)
+    {new = kept_of c.take-taken.new.self c.clear.new.self.items} [] refl
+    (line (goal.at.returns-clause-took c).After-line_of) c.clear.ensures.items took) c.take-taken.ensures.took
 
 pub returns-clause-refused : goal.returns-clause-refused
 returns-clause-refused c = refused_as c.take-taken.result c.take-taken.ensures.refused

@@ -31,6 +31,5 @@ returns-clause-took c = on_ok_weaker c.keep.result (λ took. rw (← prefix_rest
     (both_taken c.loop-end.invariant.took took)) c.keep.ensures.took
 
 pub returns-clause-refused : goal.returns-clause-refused
-returns-clause-refused c = rw (← prefix_rest c.args.piece.now c.loop-end.at)
-    (refused_as c.keep.result c.keep.ensures.refused
-    (λ fail stops. refused_behind _ fail c.loop-end.invariant.took stops))
+returns-clause-refused c = rw (← prefix_rest c.args.piece.now c.loop-end.at) (refused_as _ c.keep.ensures.refused
+    (λ fail stops. refused_behind _ _ c.loop-end.invariant.took stops))

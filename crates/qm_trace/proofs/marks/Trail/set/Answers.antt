@@ -1,4 +1,4 @@
-use Rattle.std.proofs.{Common.◌∙◌, Common.arith, lemmas.List.length-set}
+use Rattle.std.proofs.Common.{rules, arith}
 use Rattle.{motion_laws.proofs.Marks.among_at, qm_trace.proofs.Tellings.marks_more}
 use Rattle.qm_trace.proofs.marks.Trail.set.Goals as goal
 
@@ -8,11 +8,4 @@ index_mut-requires c =
     omega (arith, low, c.requires, c.loop-d.invariant.long, c.loop-d.marks.ok.0)
 
 pub loop-d-preserved : goal.loop-d-preserved
-loop-d-preserved c =
-    let low = c.args.self.now.low _ (among_at c.args.self.now.darts.now c.loop-d.d-index c.loop-d-test.true) in
-    record {
-      long = length-set c.loop-d.marks.items _ c.args.value ∙ c.loop-d.invariant.long;
-      each = marks_more c.args.self.now.darts.now c.loop-d.d-index c.args.value c.loop-d.marks.items
-          c.args.marks.now.items c.loop-d-test.true (omega (arith, low, c.requires, c.loop-d.invariant.long))
-          c.loop-d.invariant.each;
-    }
+loop-d-preserved c = let low = c.args.self.now.low _ (among_at _ _ c.loop-d-test.true) in search (rules, marks_more)

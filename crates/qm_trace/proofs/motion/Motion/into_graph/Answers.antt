@@ -29,8 +29,7 @@ returns c =
     let now = reached_now c.faces-known.ensures.mesh.manifold c.self.view_is c.requires.motion in
     let starts = rw (← c.self.view_is) at c.requires.motion.started in
     let over = rw (← c.self.view_is) at c.requires.over in
-    let covered = c.close-covered.ensures
-    ∙ cut_is c.args.mesh.now (last_state c.args.mesh.now) _ (one_end now.at over).1 in
+    let covered = c.close-covered.ensures ∙ cut_is _ (last_state c.args.mesh.now) _ (one_end now.at over).1 in
     record {
       graph = record {
         covered = covered;

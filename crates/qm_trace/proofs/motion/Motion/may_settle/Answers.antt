@@ -1,6 +1,5 @@
 use Rattle.std.proofs.{Common.refl, Common.false, Common.length, Common.ap, Common.◌∙◌, Common.arith}
 use Rattle.std.proofs.{lemmas.List.get_or_default}
-use Rattle.def_cut.specs.Events.{darts_in}
 use Rattle.qm_trace.proofs.{Noting.end_is, Noting.noted_low_at, Fewer.reached_now}
 use Rattle.qm_trace.proofs.motion.Motion.may_settle.Goals as goal
 
@@ -17,8 +16,7 @@ index-requires c =
 pub returns : goal.returns
 returns c =
     let now = reached_now c.faces-known.ensures.mesh.manifold c.self.view_is c.requires.motion in
-    let ends = end_is c.args.mesh.now c.args.v (darts_in c.self.inside.notes.noted.items)
-    c.self.inside.notes.taken.items c.self.invariant.notes_are.taken_is (noted_low_at now) in
+    let ends = end_is _ c.args.v _ _ c.self.invariant.notes_are.taken_is (noted_low_at now) in
     let mark = c.index.ensures ∙ get_or_default c.self.inside.settled.items c.args.v c.index.result.now false
     (omega (arith, c.requires.vertex, now.shown.settled_long)) in
     rw (

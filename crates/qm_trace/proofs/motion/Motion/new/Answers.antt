@@ -31,8 +31,7 @@ pub returns-clause-first : goal.returns-clause-first
 returns-clause-first c =
     let many : c.len-many.result ≡ length c.args.src.now.starts.items =
     c.len-many.ensures ∙ c.args.src.now.starts.ok.0 in
-    let list : c.in_ok-list.list.items ≡ map begun (start_darts c.args.mesh.now) = c.in_ok-list.ensures
-    ∙ ap (map begun) (c.deref.ensures.value ∙ c.requires.starts) in
+    let list : c.in_ok-list.list.items ≡ map begun (start_darts c.args.mesh.now) = search rules in
     let noted : c.in_ok-notes.notes.noted.items ≡ replicate (length (start_darts c.args.mesh.now)) None =
     c.in_ok-notes.ensures.none ∙ ap (λ n. replicate n None) (many ∙ ap length c.requires.starts) in
     let covered : c.in_ok-covered.covered.items ≡ replicate (darts c.args.mesh.now) false = search rules in
@@ -48,7 +47,4 @@ returns-clause-first c =
     ) refl
 
 pub returns-clause-motion : goal.returns-clause-motion
-returns-clause-motion c = record {
-  reached = ([], sym (returns-clause-first c));
-  started = c.in_ok-starts.ensures.items ∙ (c.deref-3.ensures.value ∙ c.requires.starts);
-}
+returns-clause-motion c = record { reached = ([], sym (returns-clause-first c)); started = search rules }

@@ -1,5 +1,4 @@
 use Rattle.std.proofs.Common.{rules, ◌≡◌, ℕ, true, length, refl, sym, ap, ◌∙◌}
-use Rattle.std.proofs.lemmas.Option.{none-some}
 use Rattle.def_cut.specs.{Events.darts_in, FullCut.is_on, Motion.is_among}
 use Rattle.qm_trace.proofs.Fewer.{reached_now, over_where, settle_may, settle_not_over}
 use Rattle.qm_trace.proofs.{Reaching.reached_by, Ends.starts_few, Noting.noted_low_at}
@@ -36,14 +35,9 @@ returns-in_err-vertex-clause-over c =
 pub returns-clause-settles : goal.returns-clause-settles
 returns-clause-settles c v is =
     let now = reached_now c.faces-known.ensures.mesh.manifold c.self.view_is c.requires in
-    let none = rw (c.deref.ensures.value, c.deref-2.ensures.value) at c.in_default.ensures.none in
-    let same : v ≡ c.in_ok-vertex.vertex = cc in
-    rw (← c.self.view_is, same) (search (rules, settle_may now))
+    search (rules, settle_may)
 
 pub returns-clause-over : goal.returns-clause-over
 returns-clause-over c =
     let may = returns-clause-settles c c.in_ok-vertex.vertex refl in
-    let now = reached_by c.faces-known.ensures.mesh.manifold _ c.requires.reached in (
-      λ never r l runs. none-some _ (sym never),
-      λ none. absurd (settle_not_over (record { now = now; may = may }) none),
-    )
+    let now = reached_by c.faces-known.ensures.mesh.manifold _ c.requires.reached in search (rules, settle_not_over)

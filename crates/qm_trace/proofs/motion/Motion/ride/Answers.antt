@@ -1,9 +1,8 @@
 use Rattle.std.proofs.Common.{rules, length, sym, subst, ap, ◌∙◌, refl, arith}
-use Rattle.std.proofs.lemmas.List.{length-set, with_items_is}
-use Rattle.def_cut.specs.{Events.Event.Ride, Views.IsMotionOn}
-use Rattle.qm_trace.proofs.Fewer.{made, ride_state, rode_counted, rode_waits, rides, as_read, event_on}
+use Rattle.qm_trace.proofs.Fewer.{rode_counted, rode_waits, rides, as_read, event_on}
 use Rattle.qm_trace.proofs.Reaching.{ride_alone, ride_dart, ride_few, ride_fresh, ride_noted}
-use Rattle.qm_trace.proofs.{Ends.starts_few, Counting.tally_few}
+use Rattle.{std.proofs.lemmas.List.length-set, std.proofs.lemmas.List.with_items_is, def_cut.specs.Events.Event.Ride}
+use Rattle.{def_cut.specs.Views.IsMotionOn, qm_trace.proofs.Ends.starts_few, qm_trace.proofs.Counting.tally_few}
 use Rattle.qm_trace.proofs.motion.Motion.ride.Goals as goal
 
 pub overflow_add-rider : goal.overflow_add-rider
@@ -31,11 +30,10 @@ note-requires c =
 
 pub invariant_of-self : goal.invariant_of-self
 invariant_of-self c =
-    let k = rides c.vertices-vertices.ensures.mesh.manifold c.self.view_is c.requires.motion c.args.r
+    let k = rides c.vertices-vertices.ensures.mesh.manifold c.self.view_is c.requires.motion _
     c.requires.rider c.requires.possible in
     let same = as_read k c.index-rider.ensures in
-    let covered = with_items_is c.self.inside.covered c.cover_edge.new.covered
-    (c.cover_edge.auto.covered ∙ c.deref_mut.ensures.len) in
+    let covered = with_items_is c.self.inside.covered _ (c.cover_edge.auto.covered ∙ c.deref_mut.ensures.len) in
     record {
       notes_are = c.note.ensures.notes;
       taken_long = omega (arith, ap length covered, ap length c.deref_mut.ensures.value);
@@ -51,10 +49,7 @@ returns-clause-event c =
     let k = rides c.vertices-vertices.ensures.mesh.manifold c.self.view_is c.requires.motion c.args.r
     c.requires.rider c.requires.possible in
     let same = as_read k c.index-rider.ensures in
-    let covered = with_items_is c.self.inside.covered c.cover_edge.new.covered
-    (c.cover_edge.auto.covered ∙ c.deref_mut.ensures.len) in
-    rw (← c.self.view_is) (ap (made c.self.inside.starts.items) (ride_state k same c.note.ensures.noted refl
-    (covered ∙ (c.cover_edge.ensures ∙ rw c.deref_mut.ensures.value refl))))
+    search (rules, with_items_is)
 
 pub returns-clause-motion : goal.returns-clause-motion
 returns-clause-motion c =
