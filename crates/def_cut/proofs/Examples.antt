@@ -1,11 +1,10 @@
 -- The motion, computed on small meshes.
 use Rattle.std.proofs.Common.{◌≡◌, ℕ, zero, suc, List, [], ◌∷◌, map, Option, Some, None, refl, true, false, reverse}
-use Rattle.std.specs.List.{range_with_len}
-use Rattle.def_mesh.specs.{Faces.Faces, Components.start_darts}
 use Rattle.def_cut.specs.{declared.moving.Moving.Moving, declared.graph.Stop.Stop}
 use Rattle.def_cut.specs.declared.graph.Stop.TheVariants.{Boundary, Tie}
-use Rattle.def_cut.specs.{Traced.terrain_of, Traced.last_state, Traced.end_state, Events.EventState, Events.may_ride}
-use Rattle.def_cut.specs.Events.{may_settle, after_ride_of, after_settling, first_event_state}
+use Rattle.def_cut.specs.Traced.{terrain_of, last_state, end_state}
+use Rattle.def_cut.specs.Events.{EventState, may_ride, may_settle, after_ride_of, after_settling, first_event_state}
+use Rattle.{std.specs.List.range_with_len, def_mesh.specs.Faces.Faces, def_mesh.specs.Components.start_darts}
 
 -- A square with two notches.
 abbrev notched : Faces

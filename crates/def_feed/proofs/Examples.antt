@@ -1,9 +1,8 @@
 -- What is kept of a small text, computed with more bytes behind it.
 use Rattle.std.proofs.Common.{◌≡◌, ◌++◌, ℕ, pos, List, [], ◌∷◌, Err, refl}
-use Rattle.std.specs.Prelude.{codes}
-use Rattle.def_text.specs.Text.{soup_in}
 use Rattle.def_text.specs.declared.refusal.ObjFail.TheVariants.{Range, Syntax}
-use Rattle.def_feed.specs.Kept.{KeptText, soup_with}
+use Rattle.{std.specs.Prelude.codes, def_text.specs.Text.soup_in, def_feed.specs.Kept.KeptText}
+use Rattle.def_feed.specs.Kept.{soup_with}
 
 -- A text that is cut within its third physical line.
 prefix : List ℕ

@@ -1,8 +1,7 @@
 -- Wish lines that are read and refused, and the wishes that are left for a quad.
 use Rattle.std.proofs.Common.{◌≡◌, ◌∷◌, [], Some, None, refl}
-use Rattle.std.specs.Prelude.{codes}
-use Rattle.def_mesh.specs.Faces.{Faces}
 use Rattle.def_fit.specs.WishLines.{edge_wishes, wish_words, wished_by}
+use Rattle.{std.specs.Prelude.codes, def_mesh.specs.Faces.Faces}
 
 plain : wished_by (wish_words (codes "#w 3 12 1500")) ≡ Some (record { u = 3; v = 12; wish = 1500 })
 plain = refl

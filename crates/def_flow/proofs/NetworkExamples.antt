@@ -1,13 +1,10 @@
 -- Rows: definitions at examples, with values from a plain search that was written from the text of the rules alone.
 use Rattle.std.proofs.Common.{◌≡◌, ℕ, Bool, true, false, Option, [], ◌∷◌, ◌++◌, length, replicate, Some, None, pos}
-use Rattle.std.proofs.Common.{negsuc, refl}
 use Rattle.def_flow.specs.{Network.Network, Network.tangle_number, Admissible.deviation, Admissible.entries}
 use Rattle.def_flow.specs.{Units.on_cost, MatchingGraph.link, MatchingGraph.matching_graph, declared.net.Arc.Arc}
-use Rattle.def_flow.specs.{declared.net.End.End, Accepted.cert_verdict, declared.cert.CertVerdict.TheVariants.Yes}
-use Rattle.def_flow.specs.declared.cert.CertVerdict.TheVariants.{Count, Below}
-use Rattle.def_flow.specs.declared.cert.CertVerdict.TheVariants.{Unequal, Dual}
-use Rattle.def_flow.specs.declared.cert.CertVerdict.TheVariants.{Sums}
-use Rattle.def_matching.specs.declared.weighted.Verdict.TheVariants.{Short}
+use Rattle.def_flow.specs.declared.cert.CertVerdict.TheVariants.{Yes, Count, Below, Unequal, Dual, Sums}
+use Rattle.{std.proofs.Common.negsuc, std.proofs.Common.refl, def_flow.specs.declared.net.End.End}
+use Rattle.{def_flow.specs.Accepted.cert_verdict, def_matching.specs.declared.weighted.Verdict.TheVariants.Short}
 
 abbrev pub end : ℕ → Bool → End
 end v s = record { node = v; plus = s }

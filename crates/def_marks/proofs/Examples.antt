@@ -1,11 +1,9 @@
 -- What `l` lines mark, computed on a small mesh.
 use Rattle.std.proofs.Common.{◌≡◌, ℕ, Bool, true, false, List, [], ◌∷◌, ◌++◌, refl, Result, Ok, Err}
-use Rattle.std.specs.Prelude.{codes, slice_set, replicate}
-use Rattle.def_io.specs.Bytes.{Bytes}
-use Rattle.def_mesh.specs.Faces.{Faces}
-use Rattle.def_text.specs.{FaceSet.FaceSet, Text.numbers_to}
-use Rattle.def_marks.specs.{Lines.marks_in, declared.fail.MarkFail.MarkFail, declared.fail.MarkFail.TheVariants.NotEdge}
-use Rattle.def_marks.specs.declared.fail.MarkFail.TheVariants.{Range, Syntax}
+use Rattle.def_marks.specs.declared.fail.MarkFail.TheVariants.{NotEdge, Range, Syntax}
+use Rattle.{std.specs.Prelude.codes, std.specs.Prelude.slice_set, std.specs.Prelude.replicate, def_io.specs.Bytes.Bytes}
+use Rattle.{def_mesh.specs.Faces.Faces, def_text.specs.FaceSet.FaceSet, def_text.specs.Text.numbers_to}
+use Rattle.{def_marks.specs.Lines.marks_in, def_marks.specs.declared.fail.MarkFail.MarkFail}
 
 -- Two by two faces.
 abbrev grid : Faces

@@ -1,8 +1,7 @@
 -- Worked rows: the definitions computed.
 use Rattle.std.proofs.Common.{◌≡◌, ℕ, List, [], ◌∷◌, ℤ, pos, negsuc, refl}
 use Rattle.def_matching.specs.declared.weighted.Verdict.TheVariants.{Yes, Shape, Even, Negative, Short}
-use Rattle.def_matching.specs.Matching.{WeightedGraph, matching_cost}
-use Rattle.def_matching.specs.Dual.{DualLists, verdict}
+use Rattle.def_matching.specs.{Matching.WeightedGraph, Matching.matching_cost, Dual.DualLists, Dual.verdict}
 
 -- Two triangles and a dear edge between them.
 abbrev triangles : WeightedGraph

@@ -1,13 +1,11 @@
 -- The definitions, computed on small meshes.
 use Rattle.std.proofs.Common.{◌≡◌, ◌<◌, ℕ, zero, suc, pos, [], ◌∷◌, map, Some, None, refl, sym, subst, arith}
-use Rattle.std.proofs.lemmas.Bool.{false≢true}
-use Rattle.def_mesh.specs.{Faces.Faces, Darts.all_darts, Darts.from_of, Darts.straight_of, Darts.twin_of}
-use Rattle.def_mesh.specs.{Vertices.fan_of, Vertices.vertex_count, Kinds.kind_of, Components.component_numbers}
-use Rattle.def_mesh.specs.Components.{seeds, start_darts, euler, edge_count}
-use Rattle.def_mesh.specs.{Faults.IsFirstTwice, Faults.repeat_in, Manifold.AreNeighbours, Manifold.Chain}
-use Rattle.def_mesh.specs.{Manifold.HasOneFan, Manifold.IsSameEdge, declared.Kind.TheVariants.Regular}
-use Rattle.def_mesh.specs.declared.Kind.TheVariants.{Singular, Corner}
-use Rattle.def_mesh.specs.declared.Kind.TheVariants.{Reflex}
+use Rattle.def_mesh.specs.{Faces.Faces, Vertices.fan_of, Vertices.vertex_count, Kinds.kind_of, Faults.IsFirstTwice}
+use Rattle.def_mesh.specs.Darts.{all_darts, from_of, straight_of, twin_of}
+use Rattle.def_mesh.specs.Components.{component_numbers, seeds, start_darts, euler, edge_count}
+use Rattle.def_mesh.specs.Manifold.{AreNeighbours, Chain, HasOneFan, IsSameEdge}
+use Rattle.def_mesh.specs.declared.Kind.TheVariants.{Regular, Singular, Corner, Reflex}
+use Rattle.{std.proofs.lemmas.Bool.false≢true, def_mesh.specs.Faults.repeat_in}
 
 -- A cube: its eight vertices are singular, so a rider starts along each dart.
 abbrev cube : Faces
@@ -117,8 +115,7 @@ bow_apart a = false≢true a
 -- A chain from the first of the two corners stays there.
 bow_stays : (e n : ℕ) → Chain bow 0 e n → e ≡ 0
 bow_stays e zero c = sym c
-bow_stays e (suc n) c =
-    let first : c.0 ≡ 0 = bow_stays c.0 n c.1 in
+bow_stays e (suc n) c = let first : c.0 ≡ 0 = bow_stays c.0 n c.1 in
     by_dart e c.2 (subst (λ (d : ℕ). from_of bow d ≡ from_of bow e) first c.3)
     (subst (λ (d : ℕ). AreNeighbours bow d e) first c.4)
   where

@@ -1,7 +1,6 @@
 -- Roots of numbers with known answers, and the targets of the four edges of a quad.
 use Rattle.std.proofs.Common.{◌≡◌, ◌-◌, ◌^◌, [], ◌∷◌, map, pos, refl}
-use Rattle.def_metric.specs.{Roots.root_of, Targets.target_of}
-use Rattle.def_text.specs.Types.{Positions}
+use Rattle.{def_metric.specs.Roots.root_of, def_metric.specs.Targets.target_of, def_text.specs.Types.Positions}
 
 root_of_two : root_of 2 ≡ 1
 root_of_two = refl

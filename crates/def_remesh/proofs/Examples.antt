@@ -53,15 +53,13 @@ abbrev large : Positions
 large = at (pos 0) (pos 0) (pos 0) ∷ at (pos 3000000) (pos 0) (pos 0) ∷
     at (pos 3000000) (pos 3000000) (pos 0) ∷ at (pos 0) (pos 3000000) (pos 0) ∷ []
 
-large_places : new_places square.faces layout large None (multiple_of 3 (long_at layout.arcs)) ≡
-    at (pos 0) (pos 0) (pos 0) ∷ at (pos 3000000) (pos 0) (pos 0) ∷ at (pos 3000000) (pos 3000000) (pos 0) ∷
-    at (pos 0) (pos 3000000) (pos 0) ∷ at (pos 1000000) (pos 0) (pos 0) ∷ at (pos 2000000) (pos 0) (pos 0) ∷
-    at (pos 3000000) (pos 1000000) (pos 0) ∷ at (pos 3000000) (pos 2000000) (pos 0) ∷
-    at (pos 2000000) (pos 3000000) (pos 0) ∷
-    at (pos 1000000) (pos 3000000) (pos 0) ∷ at (pos 0) (pos 2000000) (pos 0) ∷ at (pos 0) (pos 1000000) (pos 0) ∷
-    at (pos 1000000) (pos 1000000) (pos 0) ∷ at (pos 2000000) (pos 1000000) (pos 0) ∷
-    at (pos 1000000) (pos 2000000) (pos 0) ∷
-    at (pos 2000000) (pos 2000000) (pos 0) ∷ []
+large_places : new_places square.faces layout large None (multiple_of 3 (long_at layout.arcs)) ≡ at (pos 0) (pos 0)
+    (pos 0) ∷ at (pos 3000000) (pos 0) (pos 0) ∷ at (pos 3000000) (pos 3000000) (pos 0) ∷ at (pos 0) (pos 3000000)
+    (pos 0) ∷ at (pos 1000000) (pos 0) (pos 0) ∷ at (pos 2000000) (pos 0) (pos 0) ∷ at (pos 3000000) (pos 1000000)
+    (pos 0) ∷ at (pos 3000000) (pos 2000000) (pos 0) ∷ at (pos 2000000) (pos 3000000) (pos 0) ∷ at (pos 1000000)
+    (pos 3000000) (pos 0) ∷ at (pos 0) (pos 2000000) (pos 0) ∷ at (pos 0) (pos 1000000) (pos 0) ∷ at (pos 1000000)
+    (pos 1000000) (pos 0) ∷ at (pos 2000000) (pos 1000000) (pos 0) ∷ at (pos 1000000) (pos 2000000) (pos 0) ∷ at
+    (pos 2000000) (pos 2000000) (pos 0) ∷ []
 large_places = refl
 
 -- The stepped cylinder: three patches of three by three faces, whose arcs have length 3.
@@ -120,26 +118,22 @@ steps = record {
 
 -- Arcs that go round have length 4 or 5, and those that go up 2.
 cylinder_places : new_places cylinder.faces steps cylinder.pos None
-    (lengths_in (4 ∷ 2 ∷ 2 ∷ 5 ∷ 4 ∷ 5 ∷ 2 ∷ 2 ∷ 4 ∷ [])) ≡
-    at (pos 2000000) (pos 0) (pos 0) ∷ at (minus 2000000) (pos 0) (pos 0) ∷
-    at (pos 2000000) (pos 0) (pos 3000000) ∷ at (minus 2000000) (pos 0) (pos 3000000) ∷
-    at (pos 2000000) (pos 0) (pos 6000000) ∷ at (minus 2000000) (pos 0) (pos 6000000) ∷
-    at (pos 1250000) (pos 1500000) (pos 0) ∷ at (pos 0) (pos 2000000) (pos 0) ∷
-    at (minus 1250000) (pos 1500000) (pos 0) ∷ at (pos 2000000) (pos 0) (pos 1500000) ∷
-    at (minus 2000000) (pos 0) (pos 1500000) ∷ at (minus 1400000) (minus 1200000) (pos 0) ∷
-    at (minus 600000) (minus 2000000) (pos 0) ∷ at (pos 600000) (minus 2000000) (pos 0) ∷
-    at (pos 1400000) (minus 1200000) (pos 0) ∷ at (minus 1250000) (pos 1500000) (pos 3000000) ∷
-    at (pos 0) (pos 2000000) (pos 3000000) ∷ at (pos 1250000) (pos 1500000) (pos 3000000) ∷
-    at (pos 1400000) (minus 1200000) (pos 3000000) ∷ at (pos 600000) (minus 2000000) (pos 3000000) ∷
-    at (minus 600000) (minus 2000000) (pos 3000000) ∷ at (minus 1400000) (minus 1200000) (pos 3000000) ∷
-    at (pos 2000000) (pos 0) (pos 4500000) ∷ at (minus 2000000) (pos 0) (pos 4500000) ∷
-    at (minus 1250000) (pos 1500000) (pos 6000000) ∷ at (pos 0) (pos 2000000) (pos 6000000) ∷
-    at (pos 1250000) (pos 1500000) (pos 6000000) ∷ at (pos 1250000) (pos 1500000) (pos 1500000) ∷
-    at (pos 0) (pos 2000000) (pos 1500000) ∷ at (minus 1250000) (pos 1500000) (pos 1500000) ∷
-    at (minus 1400000) (minus 1200000) (pos 1500000) ∷ at (minus 600000) (minus 2000000) (pos 1500000) ∷
-    at (pos 600000) (minus 2000000) (pos 1500000) ∷ at (pos 1400000) (minus 1200000) (pos 1500000) ∷
-    at (pos 1250000) (pos 1500000) (pos 4500000) ∷ at (pos 0) (pos 2000000) (pos 4500000) ∷
-    at (minus 1250000) (pos 1500000) (pos 4500000) ∷ []
+    (lengths_in (4 ∷ 2 ∷ 2 ∷ 5 ∷ 4 ∷ 5 ∷ 2 ∷ 2 ∷ 4 ∷ [])) ≡ at (pos 2000000) (pos 0) (pos 0) ∷ at (minus 2000000)
+    (pos 0) (pos 0) ∷ at (pos 2000000) (pos 0) (pos 3000000) ∷ at (minus 2000000) (pos 0) (pos 3000000) ∷ at
+    (pos 2000000) (pos 0) (pos 6000000) ∷ at (minus 2000000) (pos 0) (pos 6000000) ∷ at (pos 1250000) (pos 1500000)
+    (pos 0) ∷ at (pos 0) (pos 2000000) (pos 0) ∷ at (minus 1250000) (pos 1500000) (pos 0) ∷ at (pos 2000000) (pos 0)
+    (pos 1500000) ∷ at (minus 2000000) (pos 0) (pos 1500000) ∷ at (minus 1400000) (minus 1200000) (pos 0) ∷ at
+    (minus 600000) (minus 2000000) (pos 0) ∷ at (pos 600000) (minus 2000000) (pos 0) ∷ at (pos 1400000) (minus 1200000)
+    (pos 0) ∷ at (minus 1250000) (pos 1500000) (pos 3000000) ∷ at (pos 0) (pos 2000000) (pos 3000000) ∷ at (pos 1250000)
+    (pos 1500000) (pos 3000000) ∷ at (pos 1400000) (minus 1200000) (pos 3000000) ∷ at (pos 600000) (minus 2000000)
+    (pos 3000000) ∷ at (minus 600000) (minus 2000000) (pos 3000000) ∷ at (minus 1400000) (minus 1200000) (pos 3000000)
+    ∷ at (pos 2000000) (pos 0) (pos 4500000) ∷ at (minus 2000000) (pos 0) (pos 4500000) ∷ at (minus 1250000)
+    (pos 1500000) (pos 6000000) ∷ at (pos 0) (pos 2000000) (pos 6000000) ∷ at (pos 1250000) (pos 1500000) (pos 6000000)
+    ∷ at (pos 1250000) (pos 1500000) (pos 1500000) ∷ at (pos 0) (pos 2000000) (pos 1500000) ∷ at (minus 1250000)
+    (pos 1500000) (pos 1500000) ∷ at (minus 1400000) (minus 1200000) (pos 1500000) ∷ at (minus 600000) (minus 2000000)
+    (pos 1500000) ∷ at (pos 600000) (minus 2000000) (pos 1500000) ∷ at (pos 1400000) (minus 1200000) (pos 1500000) ∷ at
+    (pos 1250000) (pos 1500000) (pos 4500000) ∷ at (pos 0) (pos 2000000) (pos 4500000) ∷ at (minus 1250000)
+    (pos 1500000) (pos 4500000) ∷ []
 cylinder_places = refl
 
 -- The steps of the arcs by shares: arc 0 has 1000, 3000 and 0 for the darts 0, 4 and 8.

@@ -1,7 +1,6 @@
 -- The followers of darts in a quad and in a torus of sixteen faces.
 use Rattle.std.proofs.Common.{◌≡◌, true, false, [], ◌∷◌, map, Some, None, refl}
-use Rattle.def_mesh.specs.Faces.{Faces}
-use Rattle.def_runs.specs.Runs.{follower, is_closed}
+use Rattle.{def_mesh.specs.Faces.Faces, def_runs.specs.Runs.follower, def_runs.specs.Runs.is_closed}
 
 abbrev quad : Faces
 quad = (0 ∷ 1 ∷ 2 ∷ 3 ∷ []) ∷ []

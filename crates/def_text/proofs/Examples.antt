@@ -1,9 +1,8 @@
 -- The definitions computed on small texts.
 use Rattle.std.proofs.Common.{◌≡◌, ◌++◌, ℕ, pos, negsuc, List, [], ◌∷◌, Ok, Err, refl, map, true, false}
-use Rattle.std.specs.{Prelude.codes, Fmt.digits}
 use Rattle.def_text.specs.{Canonical.micro_text, Decimal.is_decimal, Decimal.rounded, Text.text_soup, Words.words}
-use Rattle.def_text.specs.declared.refusal.ObjFail.TheVariants.{NotQuad, Range}
-use Rattle.def_text.specs.declared.refusal.ObjFail.TheVariants.{Syntax}
+use Rattle.def_text.specs.declared.refusal.ObjFail.TheVariants.{NotQuad, Range, Syntax}
+use Rattle.{std.specs.Prelude.codes, std.specs.Fmt.digits}
 
 words_row : words (codes " v\t1  2.5 ") ≡ codes "v" ∷ codes "1" ∷ codes "2.5" ∷ []
 words_row = refl
@@ -55,10 +54,9 @@ joined_refusal_row : text_soup 1 (codes "v 1 2 \\" ∷ codes "3 \\" ∷ codes "x
 joined_refusal_row = refl
 
 -- The table of decimals, with shorter exponents.
-decimals_row : map rounded (codes "1." ∷ codes ".5" ∷ codes "-0" ∷ codes "1.5e-7" ∷ codes "0.0000005"
-    ∷ codes "-12.340000" ∷ codes "0e99" ∷ codes "-0.0000015" ∷ codes "+12E+2" ∷ codes "1e-99" ∷ [])
-    ≡ pos 1000000 ∷ pos 500000 ∷ pos 0 ∷ pos 0 ∷ pos 1 ∷ negsuc 12339999 ∷ pos 0 ∷ negsuc 1 ∷ pos 1200000000 ∷ pos 0
-    ∷ []
+decimals_row : map rounded (codes "1." ∷ codes ".5" ∷ codes "-0" ∷ codes "1.5e-7" ∷ codes "0.0000005" ∷ codes
+    "-12.340000" ∷ codes "0e99" ∷ codes "-0.0000015" ∷ codes "+12E+2" ∷ codes "1e-99" ∷ []) ≡ pos 1000000 ∷ pos 500000
+    ∷ pos 0 ∷ pos 0 ∷ pos 1 ∷ negsuc 12339999 ∷ pos 0 ∷ negsuc 1 ∷ pos 1200000000 ∷ pos 0 ∷ []
 decimals_row = refl
 
 forms_row : map is_decimal (codes "1." ∷ codes ".5" ∷ codes "+.5e+7" ∷ codes "1E-07" ∷ []) ≡ true ∷ true ∷ true ∷ true

@@ -73,9 +73,8 @@ torus = table 1 (0 ∷ 0 ∷ []) (0 ∷ 0 ∷ [])
 torus_vertices : vertices torus (lengths (3 ∷ 2 ∷ [])) ≡ 6
 torus_vertices = refl
 
-torus_faces : new_faces torus (lengths (3 ∷ 2 ∷ [])) ≡
-    (0 ∷ 1 ∷ 4 ∷ 3 ∷ []) ∷ (1 ∷ 2 ∷ 5 ∷ 4 ∷ []) ∷ (2 ∷ 0 ∷ 3 ∷ 5 ∷ []) ∷ (3 ∷ 4 ∷ 1 ∷ 0 ∷ []) ∷
-    (4 ∷ 5 ∷ 2 ∷ 1 ∷ []) ∷ (5 ∷ 3 ∷ 0 ∷ 2 ∷ []) ∷ []
+torus_faces : new_faces torus (lengths (3 ∷ 2 ∷ [])) ≡ (0 ∷ 1 ∷ 4 ∷ 3 ∷ []) ∷ (1 ∷ 2 ∷ 5 ∷ 4 ∷ [])
+    ∷ (2 ∷ 0 ∷ 3 ∷ 5 ∷ []) ∷ (3 ∷ 4 ∷ 1 ∷ 0 ∷ []) ∷ (4 ∷ 5 ∷ 2 ∷ 1 ∷ []) ∷ (5 ∷ 3 ∷ 0 ∷ 2 ∷ []) ∷ []
 torus_faces = refl
 
 -- The pillow after one of its arcs is taken away: two sides use an arc in both directions.
@@ -119,11 +118,10 @@ ones = lengths (1 ∷ 1 ∷ 1 ∷ 1 ∷ [])
 abbrev threes : Lengths
 threes = lengths (3 ∷ 2 ∷ 3 ∷ 2 ∷ [])
 
-square_places : map (place_of quad ones threes (even ones threes) square_x)
-    (node 0 ∷ node 1 ∷ node 2 ∷ node 3 ∷ along 0 1 ∷ along 0 2 ∷ along 1 1 ∷ along 2 1 ∷ along 2 2 ∷ along 3 1
-    ∷ inside 0 1 1 ∷ inside 0 2 1 ∷ [])
-    ≡ pos 0 ∷ pos 2000000 ∷ pos 2000000 ∷ pos 0 ∷ pos 666667 ∷ pos 1333333
-    ∷ pos 2000000 ∷ pos 1333333 ∷ pos 666667 ∷ pos 0 ∷ pos 666667 ∷ pos 1333333 ∷ []
+square_places : map (place_of quad ones threes (even ones threes) square_x) (node 0 ∷ node 1 ∷ node 2 ∷ node 3 ∷ along 0
+    1 ∷ along 0 2 ∷ along 1 1 ∷ along 2 1 ∷ along 2 2 ∷ along 3 1 ∷ inside 0 1 1 ∷ inside 0 2 1 ∷ []) ≡ pos 0 ∷ pos
+    2000000 ∷ pos 2000000 ∷ pos 0 ∷ pos 666667 ∷ pos 1333333 ∷ pos 2000000 ∷ pos 1333333 ∷ pos 666667 ∷ pos 0 ∷ pos
+    666667 ∷ pos 1333333 ∷ []
 square_places = refl
 
 -- The height of the pillow's points: its upper cells come first, its lower ones last.
@@ -138,11 +136,9 @@ old = lengths (3 ∷ 3 ∷ 3 ∷ [])
 abbrev fours : Lengths
 fours = lengths (4 ∷ 4 ∷ 4 ∷ [])
 
-pillow_places : map (place_of pillow old fours (even old fours) pillow_z)
-    (inside 0 1 1 ∷ inside 0 2 1 ∷ inside 0 3 1 ∷ inside 0 4 1 ∷ inside 0 5 1 ∷ inside 0 6 1 ∷ inside 0 7 1
-    ∷ inside 0 5 2 ∷ inside 0 7 3 ∷ [])
-    ≡ pos 562500 ∷ pos 750000 ∷ pos 562500 ∷ pos 0 ∷ negsuc 562499 ∷ negsuc 749999 ∷ negsuc 562499
-    ∷ negsuc 749999 ∷ negsuc 562499 ∷ []
+pillow_places : map (place_of pillow old fours (even old fours) pillow_z) (inside 0 1 1 ∷ inside 0 2 1 ∷ inside 0 3 1
+    ∷ inside 0 4 1 ∷ inside 0 5 1 ∷ inside 0 6 1 ∷ inside 0 7 1 ∷ inside 0 5 2 ∷ inside 0 7 3 ∷ []) ≡ pos 562500 ∷ pos
+    750000 ∷ pos 562500 ∷ pos 0 ∷ negsuc 562499 ∷ negsuc 749999 ∷ negsuc 562499 ∷ negsuc 749999 ∷ negsuc 562499 ∷ []
 pillow_places = refl
 
 -- Arc 0 has the shares 1000, 3000 and 0; all others have none.

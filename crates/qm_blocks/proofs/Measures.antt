@@ -21,9 +21,8 @@ patches_few layout is = omega (arith, up (length layout.patches) (omega arith), 
         let l = gluing_of layout in
         let old = long_at layout.arcs in
         let paved = (laid_of layout is).paved in
-        let one = mul-le 1 1 (wide l old n) (high l old n)
-        (wide_some l old paved (lengths_of layout is) n (omega (arith, le)))
-        (high_some l old paved (lengths_of layout is) n (omega (arith, le))) in
+        let one = mul-le 1 1 (wide l old n) (high l old n) (wide_some l old paved (lengths_of layout is) n
+        (omega (arith, le))) (high_some l old paved (lengths_of layout is) n (omega (arith, le))) in
         omega (arith, up n (omega (arith, le)), one)
 
 -- Its sides are short enough for 64 bits at these lengths.

@@ -110,9 +110,11 @@ module _ (l : Gluing) (x : Lengths) (laid : IsSurface l) (links : List (List Lin
       (is_link.linked v across) in
       let got = are.each v across.0 in
       let there : IsLinkOf l x v got.0 = got.2 in
-      let over : got.0.other ≡ Some (w.patch, side, from) =
-      there.linked w (is, turned_back (use_of l w) (use_of l v) across.1)
-      ∙ (λ t. Some (w.patch, (sym is_link.side) t, (sym is_link.from) t)) in
+      let over : got.0.other ≡ Some (w.patch, side, from) = there.linked w (
+        is,
+        turned_back (use_of l w) (use_of l v)
+            across.1,
+      ) ∙ (λ t. Some (w.patch, (sym is_link.side) t, (sym is_link.from) t)) in
       let same : got.0 ≡ link_to side' from' len w.patch side from = λ t. record {
         side = (there.side ∙ sym (ap (λ q. q.1) told)) t;
         from = (there.from ∙ sym (ap (λ q. q.2) told)) t;
@@ -151,9 +153,8 @@ module _ (l : Gluing) (x : Lengths) (laid : IsSurface l) (len : AreLengths l x) 
   vertex_on p s t low upto = ap (vertex_number l x) (border_point l x laid len p s t low upto)
 
   -- So is that at a point of a slot.
-  slot_vertex : (w : Slot) (k : ℕ) → IsSlot l w → k ≤ x (use_of l w).arc
-      → side_vertex l x w.patch (side_name w.side) (first_point l x w + k)
-      ≡ vertex_number l x (use_point l x (use_of l w) k)
+  slot_vertex : (w : Slot) (k : ℕ) → IsSlot l w → k ≤ x (use_of l w).arc → side_vertex l x w.patch (side_name w.side)
+      (first_point l x w + k) ≡ vertex_number l x (use_point l x (use_of l w) k)
   slot_vertex w k is le =
       vertex_on w.patch w.side (first_point l x w + k) is.patch_low (omega (arith, reach_low l x w is, le))
       ∙ ap (vertex_number l x) (side_upto l x laid len w k (first_point l x w + k) is le refl)
@@ -165,9 +166,8 @@ module _ (l : Gluing) (x : Lengths) (laid : IsSurface l) (len : AreLengths l x) 
       let long : x (use_of l v).arc ≡ x (use_of l w).arc = ap x across.1.arc in
       let e : x (use_of l w).arc - (x (use_of l w).arc - k) ≡ k = omega (arith, le) in
       slot_vertex w k is le ∙ ap (λ o. vertex_number l x (use_point l x (use_of l w) o)) (sym e)
-      ∙ ap (vertex_number l x)
-      (sym (use_back l x (use_of l w) (use_of l v) across.1 (x (use_of l w).arc - k) (omega arith)))
-      ∙ sym (slot_vertex v (x (use_of l w).arc - k) across.0 (omega (arith, long)))
+      ∙ ap (vertex_number l x) (sym (use_back l x (use_of l w) (use_of l v) across.1 (x (use_of l w).arc - k)
+      (omega arith))) ∙ sym (slot_vertex v (x (use_of l w).arc - k) across.0 (omega (arith, long)))
 
 pub linked_points : LinkedPointsLaw
 linked_points l x laid len links are one other low side side' from from' n has k le =

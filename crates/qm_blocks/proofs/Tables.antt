@@ -1,15 +1,14 @@
 -- Tables of spots: what each side puts into one, and what a whole one says.
 use Rattle.std.proofs.Common.{rules, ◌≡◌, ◌≢◌, ℕ, ◌+◌, ◌*◌, ◌<◌, true, List, length, Some, None, Option, refl, sym, ◌∙◌}
 use Rattle.std.proofs.Common.{ap, subst, inl, inr, arith, [], ◌∷◌, ◌++◌, map, slice_get, get_or, append_assoc}
-use Rattle.std.proofs.Common.{length-append}
-use Rattle.std.proofs.lemmas.List.FromFn.{get_or-map-range_with_len, length-map-range_with_len, map-range_with_len_more}
-use Rattle.std.proofs.{lemmas.Bool.cases_eq, lemmas.Bool.false≢true, lemmas.List.get_or-set_other}
-use Rattle.std.proofs.{lemmas.List.get_or-set_same, lemmas.List.length-set, lemmas.Option.same_Some}
+use Rattle.std.proofs.{Common.length-append, lemmas.Bool.cases_eq, lemmas.Bool.false≢true, lemmas.Option.same_Some}
 use Rattle.std.proofs.{lemmas.Option.slice_get-get_or, Math.ListN.set, lemmas.Grind.common_steps}
+use Rattle.std.proofs.lemmas.List.FromFn.{get_or-map-range_with_len, length-map-range_with_len, map-range_with_len_more}
+use Rattle.std.proofs.lemmas.List.{get_or-set_other, get_or-set_same, length-set}
 use Rattle.def_layout.specs.Gluings.{Way, south, east, north, west, Gluing, Slot, IsSlot, AreReverse, use_of}
-use Rattle.def_layout.specs.{Surfaces.IsSurface, Surfaces.IsOtherSlot, Lengths.Lengths, Layouts.Layout}
-use Rattle.def_layout.specs.{Layouts.gluing_of, Layouts.side_at, declared.tmesh.SideArc.SideArc}
-use Rattle.def_blocks.specs.{Links.side_name, Links.arcs_before, Links.place_in, Links.AreLinks, Links.IsLinkOf}
+use Rattle.def_layout.specs.{Surfaces.IsSurface, Surfaces.IsOtherSlot, Lengths.Lengths, declared.tmesh.SideArc.SideArc}
+use Rattle.def_layout.specs.Layouts.{Layout, gluing_of, side_at}
+use Rattle.def_blocks.specs.Links.{side_name, arcs_before, place_in, AreLinks, IsLinkOf}
 use Rattle.def_blocks.specs.{declared.link.SideName.SideName, declared.link.Link.Link}
 use Rattle.qm_blocks.specs.Spots.{back_key, key_of, spot_at, spot_of, spot_on, HasSpots, HasUses, HavePut, IsBefore}
 use Rattle.qm_blocks.specs.Spots.{IsOnBlock, IsOnSide, Spot, all_links, block_links, link_on, side_links}
@@ -17,9 +16,8 @@ use Rattle.{std.specs.Option.is_some, std.specs.List.range_with_len, def_remesh.
 
 -- The next use puts its spot in.
 pub use_more : (side : List SideArc) (lengths : Lengths) (block : ℕ) (name : SideName) (many : ℕ)
-    (old mid : List (Option Spot))
-    → key_of (used_at side many) < length mid → HasUses side lengths block name many old mid
-    → HasUses side lengths block name (many + 1) old
+    (old mid : List (Option Spot)) → key_of (used_at side many) < length mid → HasUses side lengths block name many old
+    mid → HasUses side lengths block name (many + 1) old
     (set mid (key_of (used_at side many)) (Some (spot_on side lengths block name many)))
 use_more side lengths block name many old mid low are =
     let key = key_of (used_at side many) in
@@ -56,9 +54,8 @@ pub side_put : (layout : Layout) (x : Lengths) (block : ℕ) (way : Way) (side :
     → HasUses side x block name (length side) old new → HavePut (gluing_of layout) x (IsOnSide block way) old new
 side_put layout x block way side name old new same named low uses =
     let arcs = side_at layout block way in
-    let put_in : HasUses arcs x block (side_name way) (length arcs) old new =
-    subst (λ n. HasUses arcs x block n (length arcs) old new) named
-    (subst (λ us. HasUses us x block name (length us) old new) same uses) in
+    let put_in : HasUses arcs x block (side_name way) (length arcs) old new = subst (λ n. HasUses arcs x block n
+    (length arcs) old new) named (subst (λ us. HasUses us x block name (length us) old new) same uses) in
     record {
       long = put_in.long;
       kept = put_in.kept;
@@ -105,9 +102,8 @@ block_put l x block t0 t1 t2 t3 t4 a b c d = record {
     by_side w slot here west e = d.put w slot (here, e)
 
 -- So has one block more.
-pub spots_more : (l : Gluing) (x : Lengths) (block : ℕ) (old new : List (Option Spot))
-    → HasSpots l x (IsBefore block) old
-    → HavePut l x (IsOnBlock block) old new → HasSpots l x (IsBefore (block + 1)) new
+pub spots_more : (l : Gluing) (x : Lengths) (block : ℕ) (old new : List (Option Spot)) → HasSpots l x (IsBefore block)
+    old → HavePut l x (IsOnBlock block) old new → HasSpots l x (IsBefore (block + 1)) new
 spots_more l x block old new are more = search rules
 
 -- Arcs in use by their places.
@@ -190,9 +186,8 @@ module _ (layout : Layout) (x : Lengths) (table : List (Option Spot)) where
       (side_links layout x table p north) (side_links layout x table p west) missing
       (length (side_at layout p south)) (length (side_at layout p east)) (length (side_at layout p north))
       (side_long p south) (side_long p east) (side_long p north) in
-      (elim s as (λ s. at < length (side_at layout p s)
-      → get_or (block_links layout x table p) (arcs_before (gluing_of layout) p s + at) missing
-      ≡ get_or (side_links layout x table p s) at missing) [
+      (elim s as (λ s. at < length (side_at layout p s) → get_or (block_links layout x table p)
+      (arcs_before (gluing_of layout) p s + at) missing ≡ get_or (side_links layout x table p s) at missing) [
         | south ↦ λ l. reads.0 at l
         | east ↦ λ l. reads.1 at l
         | north ↦ λ l. reads.2 at l

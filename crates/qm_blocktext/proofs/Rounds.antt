@@ -26,18 +26,16 @@ module _ (sides : List Side) (i k : ℕ) (side : Side) (low : i < length sides) 
       → slice_get (arcs_of (drop i sides)) k ≡ Some used.arc
   arc_here used less read =
       let all = length-append (numbers side) (arcs_of (drop (suc i) sides)) in
-      ap (λ (xs : List ℕ). slice_get xs k) arcs_from
-      ∙ slice_get-get_or (numbers side ++ arcs_of (drop (suc i) sides)) k used.arc (omega (arith, less, many, all))
-      ∙ ap Some (get_or_append_left (numbers side) (arcs_of (drop (suc i) sides)) used.arc k (omega (arith, less, many))
-      ∙ get_or-map (λ (u : SideArc). u.arc) side.arcs.items k used used.arc less
-      ∙ ap (λ (u : SideArc). u.arc) (sym read))
+      ap (λ (xs : List ℕ). slice_get xs k) arcs_from ∙ slice_get-get_or (numbers side ++ arcs_of (drop (suc i) sides)) k
+      used.arc (omega (arith, less, many, all)) ∙ ap Some (get_or_append_left (numbers side)
+      (arcs_of (drop (suc i) sides)) used.arc k (omega (arith, less, many)) ∙ get_or-map (λ (u : SideArc). u.arc)
+      side.arcs.items k used used.arc less ∙ ap (λ (u : SideArc). u.arc) (sym read))
 
   -- An arc behind this side.
   pub arc_behind : length side.arcs.items ≤ k
       → slice_get (arcs_of (drop i sides)) k ≡ slice_get (arcs_of (drop (suc i) sides)) (k - length side.arcs.items)
-  arc_behind past = ap (λ (xs : List ℕ). slice_get xs k) arcs_from
-      ∙ later (numbers side) (arcs_of (drop (suc i) sides)) k (omega (arith, past, many))
-      ∙ ap (λ (n : ℕ). slice_get (arcs_of (drop (suc i) sides)) (k - n)) many
+  arc_behind past = ap (λ (xs : List ℕ). slice_get xs k) arcs_from ∙ later (numbers side) (arcs_of (drop (suc i) sides))
+      k (omega (arith, past, many)) ∙ ap (λ (n : ℕ). slice_get (arcs_of (drop (suc i) sides)) (k - n)) many
     where
       later : (xs ys : List ℕ) (k : ℕ) → length xs ≤ k → slice_get (xs ++ ys) k ≡ slice_get ys (k - length xs)
       later [] ys k past = ap (slice_get ys) (let same : k ≡ k - 0 = omega arith in same)

@@ -1,7 +1,7 @@
 -- The verdict yes is that the certificate is accepted.
 use Rattle.std.proofs.Common.{rules, ◌≡◌, ℕ, ℤ, ◌==◌, not, length, List, Option, Some, None, Err, IfOk, refl, sym, ◌∙◌}
 use Rattle.std.proofs.Common.{ap, inl, inr, ltb-false, eq-eqb, eqb-true, arith, option_map, pos, ◌-ℤ◌, ◌*ℤ◌, true}
-use Rattle.std.proofs.Common.{false, cond, Bool, ◌↔◌, Result, Ok, ◌*◌, ◌^◌, ◌<◌, ◌≤◌, unsigned_abs, zero, suc, ◌+◌}
+use Rattle.std.proofs.Common.{false, cond, Bool, ◌↔◌, Result, Ok, ◌*◌, ◌^◌, ◌<◌, ◌≤◌, unsigned_abs, zero, suc}
 use Rattle.std.proofs.{lemmas.Int.ints, lemmas.Bool.cases_lt, lemmas.Bool.not-false, lemmas.Bool.Decides.Decides-int_eq}
 use Rattle.std.specs.{Prelude.slice_index, Prelude.if◌then◌else◌, Ordering.int_eq}
 use Rattle.qm_dual.proofs.{Gathered.least_none, Gathered.none_below, Gathered.least_low, Gathered.least_same}
@@ -22,7 +22,7 @@ use Rattle.qm_cert.specs.Faults.{or_else, unequal_verdict, list_verdict, compare
 use Rattle.qm_cert.specs.Sides.{end_put, arc_put, side_count, AreSides}
 use Rattle.sum_laws.proofs.{Sums.count_below_le, Sums.count_below_ones, Sums.count_below_times, Sums.count_total}
 use Rattle.sum_laws.proofs.{Sums.count_below_total, Sums.total_same, Sums.total_below_same, Tests.same_test}
-use Rattle.{qm_gadget.proofs.OfList.arcwise_at, def_math.specs.Tables.IsRaised, def_math.specs.Searches.least}
+use Rattle.{qm_gadget.proofs.OfList.arcwise_at, def_math.specs.Searches.least}
 
 -- The verdict on the sum, by its three numbers.
 abbrev pub checked : ℤ → ℤ → ℤ → CertVerdict
@@ -41,10 +41,6 @@ cost_is net xs l = box_deviation net 1 xs (arcwise (down 1) net.arcs xs) xs l (o
 pub by_list : (net : Network) (c : Certificate) → cert_verdict net c
     ≡ or_else (list_verdict net c.x) (refuse_dual (verdict (matching_graph net 1 c.x) c.dual) (sums_verdict net c))
 by_list net c = grind arith
-
--- No fault of the list: it has one length for each arc, and is admissible.
-none_of : (f : ℕ → CertVerdict) (o : Option ℕ) → option_map f o ≡ None → o ≡ None
-none_of f o e = grind (arith)
 
 admissible : (net : Network) (xs : List ℕ) → IsWithinBounds net → below_fault net xs ≡ None
     → unequal_fault net xs ≡ None → IsAdmissible net (entries xs)
@@ -159,13 +155,6 @@ lows_lengths net xs are = search (rules, arcwise_length, arcwise_at)
 
 -- Sums on one side of the nodes, one arc at a time.
 
--- An end puts its length at most, and an arc twice its length.
-pub end_low : (plus : Bool) (e : End) (x v : ℕ) → end_put plus e x v ≤ x
-end_low plus e x v = grind (arith)
-
-arc_low : (plus : Bool) (a : Arc) (x v : ℕ) → arc_put plus a x v ≤ 2 * x
-arc_low plus a x v = grind (arith, end_low plus a.left x v)
-
 side_low : (arcs : List Arc) (xs : List ℕ) (plus : Bool) (k v : ℕ) → ((i : ℕ) → i < k → slice_index xs i ≤ 10 ^ 12)
     → side_count arcs xs plus k v ≤ k * (2 * 10 ^ 12)
 side_low arcs xs plus zero v short = omega arith
@@ -177,12 +166,6 @@ pub sides_low : (nodes : ℕ) (arcs : List Arc) (xs : List ℕ) (plus : Bool) (k
     → slice_index sums v ≤ k * (2 * 10 ^ 12)
 sides_low nodes arcs xs plus k sums lengths le are = tally_low (side_count arcs xs plus k) nodes (k * (2 * 10 ^ 12))
     sums are (λ v l. side_low arcs xs plus k v (λ i li. lengths.small i (omega (arith, lengths.count))))
-
--- One arc more.
-pub sides_more : (nodes : ℕ) (arcs : List Arc) (xs : List ℕ) (plus : Bool) (k : ℕ) (old new : List ℕ)
-    → AreSides nodes arcs xs plus k old → IsRaised (arc_put plus (arc_at arcs k) (slice_index xs k)) old new
-    → AreSides nodes arcs xs plus (k + 1) new
-sides_more nodes arcs xs plus k old new are raised = search rules
 
 -- Such a sum as a whole number.
 pub side_is : (arcs : List Arc) (xs : List ℕ) (plus : Bool) (v : ℕ) → pos (side_count arcs xs plus (length arcs) v)
@@ -204,14 +187,12 @@ map_same f g None same = refl
 map_same f g (Some k) same = ap Some (same k refl)
 
 -- The tables tell the least node with unequal sums, and these.
-pub compared_is : (net : Network) (xs : List ℕ) (plus minus : List ℕ)
-    → AreSides net.nodes net.arcs xs true (length net.arcs) plus
-    → AreSides net.nodes net.arcs xs false (length net.arcs) minus → compared_verdict plus minus
+pub compared_is : (net : Network) (xs : List ℕ) (plus minus : List ℕ) → AreSides net.nodes net.arcs xs true
+    (length net.arcs) plus → AreSides net.nodes net.arcs xs false (length net.arcs) minus → compared_verdict plus minus
     ≡ unequal_verdict net xs
-compared_is net xs plus minus p m =
-    ap (option_map (λ v. Unequal v (slice_index plus v) (slice_index minus v))) found
-    ∙ map_same (λ v. Unequal v (slice_index plus v) (slice_index minus v))
-    (λ v. Unequal v (unsigned_abs (side true v)) (unsigned_abs (side false v))) (unequal_fault net xs)
+compared_is net xs plus minus p m = ap (option_map (λ v. Unequal v (slice_index plus v) (slice_index minus v))) found
+    ∙ map_same (λ v. Unequal v (slice_index plus v) (slice_index minus v)) (λ v. Unequal v (unsigned_abs (side true v))
+    (unsigned_abs (side false v))) (unequal_fault net xs)
     (λ v e. same v (least_low (λ u. not (int_eq (side true u) (side false u))) net.nodes v e))
   where
     side : Bool → ℕ → ℤ
@@ -228,9 +209,8 @@ compared_is net xs plus minus p m =
     test v l =
         let a = slice_index plus v in
         let b = slice_index minus v in
-        ap not (same_test (a == b) (int_eq (pos a) (pos b))
-        (λ on. (Decides-int_eq (pos a) (pos b)).1 (ap pos (eqb-true a b on)))
-        (λ on. eq-eqb a b (omega (arith, ints, (Decides-int_eq (pos a) (pos b)).0 on))))
+        ap not (same_test (a == b) (int_eq (pos a) (pos b)) (λ on. (Decides-int_eq (pos a) (pos b)).1
+        (ap pos (eqb-true a b on))) (λ on. eq-eqb a b (omega (arith, ints, (Decides-int_eq (pos a) (pos b)).0 on))))
         ∙ (ap (λ z. not (int_eq z (pos (slice_index minus v)))) (plus_is v l) ∙ ap (λ z. not (int_eq (side true v) z))
         (minus_is v l))
 

@@ -1,23 +1,22 @@
 -- The lists of one line more, and those before and behind the first `#f 3`.
 use Rattle.std.proofs.Common.{rules, Bool, List, None, OnOk, Option, Result, Some, append-nil, arith, false, is_some, ℕ}
 use Rattle.std.proofs.Common.{inl, inr, not, refl, sym, true, ◌&&◌, ◌++◌, ◌+◌, ◌∙◌, [], ap, ◌∷◌, ◌≡◌, length, map, ◌<◌}
-use Rattle.std.proofs.Common.{append_assoc, ap₂, ◌||◌}
+use Rattle.std.proofs.{Common.append_assoc, Common.ap₂, Common.◌||◌, lemmas.List.Concat.flat_map-append}
 use Rattle.std.proofs.lemmas.Bool.{cases_Bool, false≢true, or_parts, and_from, and_parts, or_from}
 use Rattle.std.proofs.lemmas.List.Folds.{list_any-append, list_all-append, list_all-map}
-use Rattle.std.proofs.lemmas.List.Concat.{flat_map-append}
 use Rattle.std.specs.List.{after_first, before_first, flat_map, list_any, list_all}
 use Rattle.def_certtext.specs.Reading.{is_third, length_in, set_in, set_up_in, vertex_in, vertex_up_in, certificates_by}
 use Rattle.def_certtext.specs.Reading.{lists_in, certificates_in, may_stand}
+use Rattle.def_certtext.specs.{declared.certs.Rising.Rising, declared.CertLine.CertLine, declared.certs.Round.Round}
 use Rattle.def_certtext.specs.declared.certs.Rising.TheVariants.{Never, Rounds, Third}
 use Rattle.def_certtext.specs.CertLines.{Certificates, alone, lists_of, risen, risen_by, Lists, raised, said_by}
-use Rattle.def_certtext.specs.declared.CertLine.TheVariants.{Rise as rise_line, Floor, Length}
-use Rattle.def_certtext.specs.{declared.certs.Rising.Rising, declared.CertLine.CertLine, declared.certs.Round.Round}
-use Rattle.def_certtext.specs.{Rounds.parts_of, Rounds.put_line, Rounds.put_rise, declared.certs.Rise.Rise}
-use Rattle.def_certtext.specs.{Laws.AreWritable, Laws.certificate_lines, Laws.chosen_lines}
+use Rattle.def_certtext.specs.Rounds.{parts_of, put_line, put_rise}
+use Rattle.def_certtext.specs.Laws.{AreWritable, certificate_lines, chosen_lines}
 use Rattle.qm_certtext.specs.Parts.{HoldBoth, TakesLine, Holds, begins_plain, is_rise, EndsRound, HoldRounds}
-use Rattle.qm_certtext.specs.Parts.{lists_in_parts}
-use Rattle.qm_certtext.specs.{declared.parts.Found.Found, declared.parts.Parts.Parts}
+use Rattle.qm_certtext.specs.{Parts.lists_in_parts, declared.parts.Found.Found, declared.parts.Parts.Parts}
 use Rattle.qm_certtext.proofs.Telling.{lists_back, no_third, no_rise}
+use Rattle.def_certtext.specs.declared.certs.Rise.{Rise}
+use Rattle.def_certtext.specs.declared.CertLine.TheVariants.{Rise as rise_line, Floor, Length}
 
 -- Before and behind the first that passes, where it is not the front.
 module _ {X : Type 0} (p : X → Bool) where
@@ -210,10 +209,8 @@ rounds_back front plain adds (risen first rises after) able =
     let behind = rounds_back [] refl (λ said. refl) after able.5 in
     ap (λ (ls : List CertLine). certificates_by (parts_of ls))
     (sym (append_assoc front (said_by first) (map rise_line rises ++ chosen_lines after)))
-    ∙ round_first (front ++ said_by first) rises (chosen_lines after)
-    (list_any-append is_rise front (said_by first) ∙ or_from _ _ plain (no_rise first)) able.3
-    (plain_first after able.5)
-    ∙ (λ i. risen (lists i) rises (behind i))
+    ∙ round_first (front ++ said_by first) rises (chosen_lines after) (list_any-append is_rise front (said_by first)
+    ∙ or_from _ _ plain (no_rise first)) able.3 (plain_first after able.5) ∙ (λ i. risen (lists i) rises (behind i))
 
 -- The lines of certificates say these.
 pub chosen_certs : (rising : Rising) (certificates : Certificates) → AreWritable rising certificates
@@ -287,9 +284,8 @@ takes_plain old ended new line plain ends rounds rises adds said hold =
           = ap (λ (rs : List Rise). (end.lines ++ line ∷ []) ++ (map rise_line rs ++ more)) (rises ∙ end.none)
           ∙ append_assoc end.lines (line ∷ []) more in
           ap (λ (ls : List CertLine). certificates_by (parts_of ls)) (append_assoc said (line ∷ []) more)
-          ∙ end.same (line ∷ more) (rw plain refl)
-          ∙ ap₂ (λ (rs : List Round) (ls : List CertLine). risen_by rs (certificates_by (parts_of ls))) (sym rounds)
-          (sym behind);
+          ∙ end.same (line ∷ more) (rw plain refl) ∙ ap₂ (λ (rs : List Round) (ls : List CertLine). risen_by rs
+          (certificates_by (parts_of ls))) (sym rounds) (sym behind);
     }
 
 -- At the end of all lines the certificates are those of the rounds and the last.

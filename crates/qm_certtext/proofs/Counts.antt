@@ -10,14 +10,10 @@ use Rattle.std.proofs.lemmas.List.{drop_at, take-append-drop, take_at}
 use Rattle.std.specs.{Prelude.decimal, Prelude.unsigned_abs, Int.Digits.number_from_digits_after, List.position_or_len}
 use Rattle.std.specs.{List.list_all, Char.is_ascii_digit, Fmt.digits, Fmt.signed_decimal}
 use Rattle.def_certtext.specs.{declared.certs.Rising.TheVariants.Rounds, declared.certs.Rising.Rising, Reading.is_small}
-use Rattle.def_certtext.specs.{Reading.may_name, Reading.may_tell, declared.certs.Rise.Rise}
+use Rattle.def_certtext.specs.{Reading.may_tell, declared.certs.Rise.Rise}
 use Rattle.def_text.specs.{Types.Word, Digits.is_number, Digits.number_written}
 use Rattle.qm_dec.proofs.ReadBack.{decimal_digits, decimal_number, digit_other, digits_fail, first_at, first_passes}
 use Rattle.qm_scan.proofs.Numbers.{number_all}
-
--- A floor that a line may name is small.
-pub floor_low : (rising : Rising) (floor : ℕ) → may_name rising floor ≡ true → floor ≤ 3
-floor_low rising floor h1 = search rules
 
 -- So are the numbers of a rise, which a line may tell in rounds alone.
 pub rise_low : (rising : Rising) (rise : Rise) → may_tell rising rise ≡ true → (rise.arc < 2 ^ 32) × (rise.floor ≤ 3)
@@ -167,9 +163,8 @@ module _ {text prefix behind : Word} {i : ℕ} (place : i ≡ position_or_len (�
       begins = by_behind behind refl some
 
   -- A rise is a number from 1 and a floor.
-  pub rise_parts : (rise : Rise) → may_tell Rounds rise ≡ true
-      → text ≡ decimal (rise.arc + 1) ++ 32 ∷ decimal rise.floor
-      → (prefix ≡ decimal (rise.arc + 1)) × (behind ≡ 32 ∷ decimal rise.floor)
+  pub rise_parts : (rise : Rise) → may_tell Rounds rise ≡ true → text ≡ decimal (rise.arc + 1) ++ 32 ∷ decimal
+      rise.floor → (prefix ≡ decimal (rise.arc + 1)) × (behind ≡ 32 ∷ decimal rise.floor)
   rise_parts rise may is = parts_are (pos (rise.arc + 1)) rise.floor
       (small_parts (pos (rise.arc + 1)) rise.floor (rise_small Rounds rise may)).0 is
 
@@ -183,8 +178,7 @@ module _ {text prefix behind : Word} {i : ℕ} (place : i ≡ position_or_len (�
       × (text ≡ decimal (number - 1 + 1) ++ 32 ∷ decimal floor)
   rise_read rest number floor some is low high number_is least floor_is =
       let same : number - 1 + 1 ≡ number = omega arith in
-      let read = both_read rest (pos number) floor some is (omega arith) number_is (omega arith)
-      floor_is in (
+      let read = both_read rest (pos number) floor some is (omega arith) number_is (omega arith) floor_is in (
         and_from _ _ (lt-ltb (number - 1) (2 ^ 32) (omega arith)) (le-leb floor 3 least),
         read.1 ∙ ap (λ (n : ℕ). decimal n ++ 32 ∷ decimal floor) (sym same),
       )

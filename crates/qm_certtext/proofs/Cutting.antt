@@ -1,17 +1,15 @@
 -- A head line is cut into its words in one way.
 use Rattle.std.proofs.Common.{rules, Bool, MatchOption, None, Option, Some, append_assoc, arith, codes, false, get_or}
 use Rattle.std.proofs.Common.{length, [], drop, eqb, inl, inr, refl, sym, take, true, ◌++◌, ◌+◌, ◌∙◌, ◌∷◌, ◌≡◌, ℕ, ap}
-use Rattle.std.proofs.Common.{◌≤◌}
+use Rattle.std.proofs.{Common.◌≤◌, lemmas.Bool.cases_Bool, lemmas.Bool.false≢true, lemmas.List.Folds.list_all-append}
 use Rattle.std.proofs.lemmas.List.{append_cancel_left, drop_at, take-append-drop, take_at}
-use Rattle.std.proofs.lemmas.Bool.{cases_Bool, false≢true}
-use Rattle.std.proofs.{lemmas.List.Folds.list_all-append, lemmas.Fmt.decimal_injective}
 use Rattle.std.specs.{Char.is_ascii_digit, List.list_all, List.position_or_len, Prelude.decimal, Str.bytes_eq}
 use Rattle.def_certtext.specs.Settings.{AreInRange, AreWordsOf, IsFloor, floor_text, scale_text, weight_text}
-use Rattle.def_certtext.specs.{declared.Asked.Asked, Reading.IsHead}
 use Rattle.qm_certtext.specs.Cuts.{IsCut, asked_line, is_bare}
 use Rattle.qm_dec.proofs.ReadBack.{decimal_digits, digit_other, digits_fail, first_at, above_is, below_is}
 use Rattle.def_flow.specs.{declared.net.Settings.Settings, declared.net.Weight.Weight}
-use Rattle.def_text.specs.{Types.Word, Ratio.IsRatio}
+use Rattle.{std.proofs.lemmas.Fmt.decimal_injective, def_certtext.specs.declared.Asked.Asked}
+use Rattle.{def_certtext.specs.Reading.IsHead, def_text.specs.Types.Word, def_text.specs.Ratio.IsRatio}
 
 -- A text with and without this prefix.
 pub stripped : (prefix text rest : Word) → bytes_eq (take (length prefix) text) prefix ≡ true
@@ -108,16 +106,9 @@ asked_words prefix line scale floor weight settings auto cut range is =
     let same = one_cut prefix line scale floor weight _ _ _ cut (asked_cut prefix line settings auto range is) in
     record { scaled = same.0; bounded = same.1; weighed = same.2; in_range = range }
 
-words_asked : (prefix line scale floor weight : Word) (settings : Settings) (auto : Bool)
-    → IsCut prefix line scale floor weight
-    → AreWordsOf scale floor weight settings auto → line ≡ asked_line prefix settings auto
+words_asked : (prefix line scale floor weight : Word) (settings : Settings) (auto : Bool) → IsCut prefix line scale
+    floor weight → AreWordsOf scale floor weight settings auto → line ≡ asked_line prefix settings auto
 words_asked prefix line scale floor weight settings auto cut words = search (rules, nested)
-
--- Where the line was cut so far, it is cut whole, or it has no cut.
-pub cut_of : (prefix line rest scale more floor weight : Word) → line ≡ prefix ++ rest → is_bare scale ≡ true
-    → rest ≡ scale ++ (floor_mark ++ more)
-    → is_bare floor ≡ true → more ≡ floor ++ (weight_mark ++ weight) → IsCut prefix line scale floor weight
-cut_of prefix line rest scale more floor weight is scale_is first floor_is second = search rules
 
 pub no_floor : (prefix line rest first more : Word) → line ≡ prefix ++ rest → is_bare first ≡ true
     → rest ≡ first ++ (floor_mark ++ more)
@@ -130,23 +121,20 @@ no_floor prefix line rest first more is bare_is split none scale floor weight cu
 
 -- The settings of a cut line are those of its words.
 pub asked_read : (prefix line scale floor weight : Word) (o : Option Asked) → IsCut prefix line scale floor weight
-    → MatchOption o ((settings : Settings) (auto : Bool) → AreWordsOf scale floor weight settings auto
-    → ⊥) (λ asked. AreWordsOf scale floor weight asked.settings asked.auto)
-    → MatchOption o ((settings : Settings) (auto : Bool) → AreInRange settings auto
-    → line ≡ asked_line prefix settings auto → ⊥)
-    (λ asked. AreInRange asked.settings asked.auto × (line ≡ asked_line prefix asked.settings asked.auto))
+    → MatchOption o ((settings : Settings) (auto : Bool) → AreWordsOf scale floor weight settings auto → ⊥)
+    (λ asked. AreWordsOf scale floor weight asked.settings asked.auto)
+    → MatchOption o ((settings : Settings) (auto : Bool) → AreInRange settings auto → line ≡ asked_line prefix settings
+    auto → ⊥) (λ asked. AreInRange asked.settings asked.auto × (line ≡ asked_line prefix asked.settings asked.auto))
 asked_read prefix line scale floor weight None cut none =
     λ settings auto range is. none settings auto (asked_words prefix line scale floor weight settings auto cut range is)
 asked_read prefix line scale floor weight (Some asked) cut words = search (rules, words_asked)
 
 -- Behind the prefix of a head line they are those of the head line.
-pub head_read : (line : Word) (o : Option Asked)
-    → MatchOption o ((settings : Settings) (auto : Bool) → AreInRange settings auto
-    → line ≡ asked_line (codes "#quadq 1 remesh scale ") settings auto → ⊥)
-    (λ asked. AreInRange asked.settings asked.auto
-    × (line ≡ asked_line (codes "#quadq 1 remesh scale ") asked.settings asked.auto))
-    → MatchOption o ((settings : Settings) (auto : Bool) → IsHead line settings auto
-    → ⊥) (λ asked. IsHead line asked.settings asked.auto)
+pub head_read : (line : Word) (o : Option Asked) → MatchOption o ((settings : Settings) (auto : Bool) → AreInRange
+    settings auto → line ≡ asked_line (codes "#quadq 1 remesh scale ") settings auto → ⊥)
+    (λ asked. AreInRange asked.settings asked.auto × (line ≡ asked_line (codes "#quadq 1 remesh scale ") asked.settings
+    asked.auto)) → MatchOption o ((settings : Settings) (auto : Bool) → IsHead line settings auto → ⊥)
+    (λ asked. IsHead line asked.settings asked.auto)
 head_read line None none = λ settings auto head. none settings auto head.in_range head.written
 head_read line (Some asked) read = record { written = read.1; in_range = read.0 }
 

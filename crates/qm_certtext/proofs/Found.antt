@@ -1,32 +1,25 @@
 -- The last line that begins with a prefix, found line after line.
-use Rattle.std.proofs.Common.{rules, None, Option, Some, arith, false, if◌then◌else◌, inl, length, slice_index_or, []}
+use Rattle.std.proofs.Common.{rules, None, Option, Some, arith, if◌then◌else◌, inl, length, slice_index_or, []}
 use Rattle.std.proofs.Common.{ap, drop, inr, sym, take, true, ℕ, ◌+◌, ◌-◌, ◌<◌, ◌∙◌, ◌≡◌, ◌≤◌, Bool, List, filter, zero}
 use Rattle.std.proofs.Common.{◌++◌, map, suc, ◌∷◌, length-drop, ◌^◌}
-use Rattle.std.proofs.lemmas.List.{get_or-take, length-take-le, take_more, drop-drop, get_or-drop}
 use Rattle.std.proofs.{lemmas.Bool.cases_Bool, lemmas.Bool.and_parts, lemmas.List.Elements.filter-append}
+use Rattle.std.proofs.lemmas.List.{get_or-take, length-take-le, take_more, drop-drop, get_or-drop}
 use Rattle.std.specs.{List.starts_with, List.list_all, Prelude.IfSome, Prelude.nat_eq}
-use Rattle.qm_certtext.specs.{Heads.IsFoundIn, declared.last.HeadAt.HeadAt, Parts.HoldSome, Parts.IsLineFail}
-use Rattle.qm_certtext.specs.{Parts.TakesText, Parts.Holds, Parts.ReadSome, declared.parts.Found.Found}
+use Rattle.qm_certtext.specs.{Heads.IsFoundIn, declared.last.HeadAt.HeadAt, declared.parts.Found.Found}
+use Rattle.qm_certtext.specs.Parts.{HoldSome, IsLineFail, TakesText, Holds, ReadSome}
 use Rattle.def_certtext.specs.declared.CertFail.TheVariants.{Head, Line, Memory}
-use Rattle.def_certtext.specs.Reading.{IsBehindFail, Says, is_hash_line, may_stand, IsCertFail, IsHead, Made, TellHow}
 use Rattle.def_certtext.specs.{declared.CertFail.CertFail, declared.certs.Rising.Rising, declared.CertLine.CertLine}
-use Rattle.def_certtext.specs.{CertLines.line_text, Risings.third_if}
+use Rattle.def_certtext.specs.Reading.{IsBehindFail, Says, is_hash_line, may_stand, IsCertFail, Made, TellHow}
 use Rattle.def_io.specs.{Lines.lines_of, Lines.tail_of, Bytes.Bytes, Bytes.Lines}
-use Rattle.qm_io.proofs.Cuts.{first_lines, rest_is, last_lines}
-use Rattle.def_flow.specs.declared.net.Settings.{Settings}
+use Rattle.{def_certtext.specs.CertLines.line_text, qm_io.proofs.Cuts.first_lines}
+use Rattle.{qm_io.proofs.Cuts.rest_is, qm_io.proofs.Cuts.last_lines}
 
 -- Where a line was found, it begins within the text, and the lines before and behind its first byte are so.
 pub found_kept : (prefix bytes : Bytes) (n : ℕ) (found : Option HeadAt) → IsFoundIn prefix bytes n found
-    → IfSome found (λ head. head.at ≤ length bytes)
-    × IfSome found (λ head. lines_of (take head.at bytes) ≡ take head.line (lines_of bytes))
-    × IfSome found (λ head. drop head.at bytes ≡ tail_of head.line bytes)
+    → IfSome found (λ head. head.at ≤ length bytes) × IfSome found (λ head. lines_of (take head.at bytes) ≡ take
+    head.line (lines_of bytes)) × IfSome found (λ head. drop head.at bytes ≡ tail_of head.line bytes)
 found_kept prefix bytes n None is = (tt, tt, tt)
 found_kept prefix bytes n (Some head) is = (is.within, is.old, is.written)
-
--- Another line changes nothing.
-found_same : (prefix bytes line : Bytes) (i : ℕ) (found : Option HeadAt) → line ≡ slice_index_or (lines_of bytes) i []
-    → starts_with nat_eq line prefix ≡ false → IsFoundIn prefix bytes i found → IsFoundIn prefix bytes (i + 1) found
-found_same prefix bytes line i found at other is = search rules
 
 -- A line that begins so is the last one.
 found_next : (prefix bytes rest line : Bytes) (i at : ℕ) → rest ≡ tail_of i bytes → line
@@ -120,10 +113,3 @@ module _ (bytes tail : Bytes) (line : ℕ) (is : tail ≡ tail_of line bytes) wh
       (drop 1 (lines_of tail)) fail
       → IsCertFail (slice_index_or (lines_of bytes) line []) (line + 2) (drop (line + 1) (lines_of bytes)) fail
   tail_fails fail why = rw (← head_is) (rw (← behind_is) why)
-
--- Why the lines behind a head line tell nothing, their text tells nothing.
-pub text_fails : (text line behind : Bytes) (settings : Settings) (auto : Bool) (number : ℕ) (fail : CertFail)
-    → lines_of text ≡ line ∷ lines_of behind → IsHead line settings auto
-    → IsBehindFail (third_if auto) number (lines_of behind) fail
-    → IsCertFail (slice_index_or (lines_of text) 0 []) number (drop 1 (lines_of text)) fail
-text_fails text line behind settings h1 h2 h3 = search rules

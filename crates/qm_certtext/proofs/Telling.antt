@@ -82,8 +82,7 @@ duals_each P kind each (z ∷ zs) (u ∷ us) (suc k) d l = duals_each P kind eac
 nothing : {Y : Type 0} (f : CertLine → List Y) (lines : List CertLine) → All (λ line. f line ≡ []) lines
     → flat_map f lines ≡ []
 nothing f [] none = refl
-nothing f (line ∷ lines) none =
-    rw (none 0 line (omega arith)) (nothing f lines (λ k d l. none (suc k) d (omega arith)))
+nothing f (line ∷ lines) none = rw (none 0 line (omega arith)) (nothing f lines (λ k d l. none (suc k) d (omega arith)))
 
 no_length : {Y : Type 0} (f : CertLine → List Y) → ((n : ℕ) → f (Length n) ≡ []) → (xs : List ℕ)
     → flat_map f (map Length xs) ≡ []

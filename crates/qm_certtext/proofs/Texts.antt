@@ -1,28 +1,26 @@
 -- The lines of a written text, and what they tell.
 use Rattle.std.proofs.Common.{rules, Bool, List, append_assoc, arith, codes, false, filter, get_or, length, subst, ltb}
 use Rattle.std.proofs.Common.{map, not, pos, refl, suc, sym, true, zero, ◌++◌, ◌+◌, ◌<◌, ◌^◌, ◌↔◌, ◌∙◌, ◌∷◌, ◌≡◌, []}
-use Rattle.std.proofs.Common.{ap, ℕ}
-use Rattle.std.proofs.lemmas.Bool.{and_from, and_parts, eqb-true, ltb-true}
-use Rattle.std.proofs.{lemmas.List.Concat.flat_map-append, lemmas.List.Folds.flat_map-map}
+use Rattle.std.proofs.{Common.ap, Common.ℕ, lemmas.List.Concat.flat_map-append, lemmas.List.Folds.flat_map-map}
 use Rattle.std.proofs.{lemmas.List.Folds.list_all-append, lemmas.List.length-map}
+use Rattle.std.proofs.lemmas.Bool.{and_from, and_parts, eqb-true, ltb-true}
 use Rattle.std.specs.{Char.is_ascii_digit, List.flat_map, List.list_all, List.All, Prelude.decimal}
 use Rattle.def_certtext.specs.Reading.{IsHead, Made, TellCerts, TellHow, certificates_in, is_hash_line, may_stand}
+use Rattle.def_certtext.specs.{CertLines.risen, CertLines.used, declared.CertLine.CertLine}
+use Rattle.def_certtext.specs.{declared.certs.Rising.Rising, HeadLine.head_line, Risings.third_if}
 use Rattle.def_certtext.specs.Settings.{AreInRange, IsFloor, floor_text, scale_text, weight_text}
 use Rattle.def_certtext.specs.CertLines.{Certificates, line_text, text_of, HasUps, lists_of, raised, risen_by, alone}
-use Rattle.def_certtext.specs.CertLines.{risen, used}
 use Rattle.def_certtext.specs.Laws.{certificate_lines, AreWritable, IsPrintable, WrittenLaw, chosen_lines}
-use Rattle.def_certtext.specs.{declared.CertLine.CertLine, declared.certs.Rising.Rising, HeadLine.head_line}
-use Rattle.def_certtext.specs.{Risings.third_if, declared.certs.Round.Round}
-use Rattle.{def_flow.specs.declared.net.Settings.Settings, def_io.specs.Bytes.Lines, def_io.specs.Lines.lines_of}
 use Rattle.def_text.specs.{Canonical.canonical_text, FaceSet.FaceSet, Laws.is_position, Laws.is_quad, Types.Word}
-use Rattle.qm_certtext.proofs.{Chosen.chosen_allowed, Chosen.chosen_certs, Cutting.asked_words, Cutting.asked_cut}
-use Rattle.qm_certtext.proofs.{Cutting.same_settings, Counts.small_parts, Found.filter_append, Telling.all_marked}
-use Rattle.qm_certtext.proofs.{Telling.one_list}
-use Rattle.qm_obj.proofs.{LawSoup.canonical_lines, LawSoup.each_both, LawSoup.position_line, LawSoup.position_line_is}
-use Rattle.qm_obj.proofs.{LawSoup.vertex_word, LawSoup.each_map, LawSoup.face_line, TailLemmas.passes_at}
+use Rattle.qm_certtext.proofs.{Chosen.chosen_allowed, Chosen.chosen_certs, Counts.small_parts, Found.filter_append}
+use Rattle.qm_certtext.proofs.Cutting.{asked_words, asked_cut, same_settings}
+use Rattle.qm_obj.proofs.LawSoup.{canonical_lines, each_both, position_line, position_line_is, vertex_word, each_map}
 use Rattle.qm_obj.proofs.LawText.{IsLine, IsWord, decimal_word, is_inside, line_tame, lines_back, tame_inside}
-use Rattle.qm_dec.proofs.ReadBack.{decimal_digits, digit_other}
 use Rattle.qm_certtext.specs.{Cuts.asked_line, RoundLines.round_lines, RoundLines.HaveUps}
+use Rattle.{def_certtext.specs.declared.certs.Round.Round, def_flow.specs.declared.net.Settings.Settings}
+use Rattle.{def_io.specs.Bytes.Lines, def_io.specs.Lines.lines_of, qm_certtext.proofs.Telling.all_marked}
+use Rattle.{qm_certtext.proofs.Telling.one_list, qm_obj.proofs.LawSoup.face_line, qm_obj.proofs.TailLemmas.passes_at}
+use Rattle.{qm_dec.proofs.ReadBack.decimal_digits, qm_dec.proofs.ReadBack.digit_other}
 
 -- Digits end no line.
 digits_inside : (digits : Word) → list_all is_ascii_digit digits ≡ true → list_all is_inside digits ≡ true
@@ -80,13 +78,11 @@ face_line_is face quad low =
 
 mesh_inside : (soup : FaceSet) → IsPrintable soup → (k : ℕ) → k < length (canonical_lines soup)
     → list_all is_inside (get_or (canonical_lines soup) k []) ≡ true
-mesh_inside soup able =
-    each_both (λ l. list_all is_inside l ≡ true) (map position_line soup.pos) (map face_line soup.faces) []
-    (each_map (λ l. list_all is_inside l ≡ true) position_line soup.pos [] [] (λ k l.
-    tame_inside (position_line (get_or soup.pos k []))
-    (position_line_is (get_or soup.pos k []) (passes_at is_position soup.pos k [] able.positions l)).tame))
-    (each_map (λ l. list_all is_inside l ≡ true) face_line soup.faces [] [] (λ k l.
-    tame_inside (face_line (get_or soup.faces k []))
+mesh_inside soup able = each_both (λ l. list_all is_inside l ≡ true) (map position_line soup.pos)
+    (map face_line soup.faces) [] (each_map (λ l. list_all is_inside l ≡ true) position_line soup.pos [] []
+    (λ k l. tame_inside (position_line (get_or soup.pos k [])) (position_line_is (get_or soup.pos k [])
+    (passes_at is_position soup.pos k [] able.positions l)).tame)) (each_map (λ l. list_all is_inside l ≡ true)
+    face_line soup.faces [] [] (λ k l. tame_inside (face_line (get_or soup.faces k []))
     (face_line_is (get_or soup.faces k []) (passes_at is_quad soup.faces k [] able.quads l)
     (passes_at (λ face. list_all (λ v. ltb v (2 ^ 32)) face) soup.faces k [] able.corners l)).tame))
 

@@ -1,27 +1,24 @@
 -- What is kept by certificates that are checked, and why none is.
 use Rattle.std.proofs.Common.{rules, ap, ◌+◌, refl, ◌++◌, subst, [], ℕ, ◌∷◌, inl, arith, length, List, ◌∙◌, ◌≡◌, inr}
-use Rattle.std.proofs.Common.{sym}
-use Rattle.std.proofs.lemmas.List.{get_or_default}
 use Rattle.def_layout.specs.{Layouts.Layout, Layouts.gluing_of, Lengths.Lengths, Gluings.Gluing}
-use Rattle.def_run.specs.{Judging.AreWrong, Judging.AreFront, Judging.first_of, Judging.IsWrong}
+use Rattle.def_run.specs.Judging.{AreWrong, AreFront, first_of, IsWrong}
 use Rattle.def_run.specs.{declared.check_fail.CheckFail.CheckFail}
 use Rattle.def_run.specs.{declared.check_fail.CheckFail.TheVariants.NotAccepted, declared.answer.Why.Why}
 use Rattle.def_certtext.specs.CertLines.{lists_of, used, alone, risen_by, risen, Lists, Certificates, certificates_of}
 use Rattle.def_certtext.specs.{declared.certs.Rising.Rising, declared.certs.Certs.Certs, declared.certs.Rise.Rise}
-use Rattle.def_certtext.specs.{declared.certs.Round.Round}
-use Rattle.remesh_laws.specs.Keeps.{AreLed, floors_behind}
 use Rattle.def_flow.specs.{Accepted.certificate, declared.cert.Cert.Cert, declared.net.Settings.Settings}
 use Rattle.def_flow.specs.{Network.Network, Descent.IsSolution, Admissible.entries, Admissible.deviation}
-use Rattle.remesh_laws.proofs.{ReadAgain.net_risen, ReadAgain.behind_more, ReadAgain.led_more, ReadAgain.used_behind}
-use Rattle.remesh_laws.proofs.{Keeps.solved, Keeps.keeps}
-use Rattle.def_layoutnet.specs.Floors.{floor_of, HasFloors}
+use Rattle.remesh_laws.proofs.ReadAgain.{net_risen, behind_more, led_more, used_behind}
 use Rattle.qm_check.specs.Checked.{GivesNone, IsChecked, ArePassed, IsInReach, Gives, IsUnused, IsCheckable, AreInReach}
-use Rattle.qm_check.specs.Checked.{IsNoRise}
 use Rattle.qm_check.specs.declared.lengths.Lengths.TheVariants.{Doubled, Whole}
 use Rattle.def_remesh.specs.{Keeping.IsNetWith, Keeping.IsNetFor, Certified.IsDoubling, Certified.IsCertified}
 use Rattle.def_remesh.specs.{Remeshed.AreKeptBy, NewPoints.lengths_in, Rises.AreNeeded, Rises.risen_floors}
 use Rattle.def_remesh.specs.{declared.tables.Tables.Tables, Tasks.given_floors, Tasks.Wish}
-use Rattle.{std.specs.Prelude.◌<◌, std.specs.Prelude.slice_index_or, qm_layoutnet.proofs.Floors.floors_deviation}
+use Rattle.{std.proofs.Common.sym, std.proofs.lemmas.List.get_or_default, def_certtext.specs.declared.certs.Round.Round}
+use Rattle.{remesh_laws.specs.Keeps.AreLed, remesh_laws.specs.Keeps.floors_behind, remesh_laws.proofs.Keeps.solved}
+use Rattle.{remesh_laws.proofs.Keeps.keeps, def_layoutnet.specs.Floors.floor_of, def_layoutnet.specs.Floors.HasFloors}
+use Rattle.{qm_check.specs.Checked.IsNoRise, std.specs.Prelude.◌<◌, std.specs.Prelude.slice_index_or}
+use Rattle.qm_layoutnet.proofs.Floors.{floors_deviation}
 use Rattle.def_run.specs.declared.answer.Why.TheVariants as why
 
 -- ---- Rounds in front of certificates.
@@ -82,9 +79,8 @@ unused_by wish layout net settings told cert _ wrong none = search none
 
 module _ {wish : Wish} {layout : Layout} {net : Network} where
   -- A certificate that gives no lengths is wrong.
-  pub wrong_of : {floors : Lengths} {settings : Settings} (cert : Cert) (why : Why)
-      → IsNetWith wish layout settings floors net → GivesNone layout net cert (NotAccepted why)
-      → IsWrong wish layout settings floors (lists_of cert) why
+  pub wrong_of : {floors : Lengths} {settings : Settings} (cert : Cert) (why : Why) → IsNetWith wish layout settings
+      floors net → GivesNone layout net cert (NotAccepted why) → IsWrong wish layout settings floors (lists_of cert) why
   wrong_of h1 h2 h3 = search (rules, solved)
 
   -- Lengths that double an edge are doubling.
@@ -132,9 +128,8 @@ module _ {wish : Wish} {layout : Layout} {settings : Settings} {start : Network}
   unused_last cert {u} {v} solution gives = search (rules, wrong_there, inr, solved)
 
   -- The floors that rise behind it do not have to.
-  pub unused_rises : (round : Round) (after : Certificates) (number : ℕ) (fail : CheckFail)
-      → number ≡ length rounds + 2 → IsDoubling wish layout settings floors (lists_of round.cert)
-      → IsNoRise layout round number fail
+  pub unused_rises : (round : Round) (after : Certificates) (number : ℕ) (fail : CheckFail) → number ≡ length rounds + 2
+      → IsDoubling wish layout settings floors (lists_of round.cert) → IsNoRise layout round number fail
       → IsUnused wish layout settings (risen_by rounds (risen (lists_of round.cert) round.rises.items after)) fail
   unused_rises round after number (NotAccepted why) numbered doubling none = search (rules, wrong_there)
   unused_rises round after number _ numbered doubling none = search none
@@ -155,13 +150,15 @@ module _ {wish : Wish} {layout : Layout} {settings : Settings} {start : Network}
   -- The certificate behind them is used.
   pub checked_there : (rising : Rising) (after : Certificates) (cert : Cert) (certs : Certs) {tables : Tables}
       {deviates : ℕ} → lists_of cert ≡ first_of after → AreInReach rising (risen_by rounds after)
-      → certificates_of certs ≡ risen_by rounds (alone (lists_of cert))
-      → IsSolution net (certificate cert) → Gives layout net cert.x.items (Whole tables deviates)
-      → IsChecked wish layout start (record { settings = settings; rising = rising }) (risen_by rounds after) (record {
+      → certificates_of certs ≡ risen_by rounds (alone (lists_of cert)) → IsSolution net (certificate cert)
+      → Gives layout net cert.x.items (Whole tables deviates) → IsChecked wish layout start
+      (record { settings = settings; rising = rising }) (risen_by rounds after)
+      (record {
         remesh = record {
           terms = record { settings = settings; rising = rising };
           certs = certs;
-          numbering = tables;
+          numbering
+              = tables;
         };
         deviation = deviates;
       })

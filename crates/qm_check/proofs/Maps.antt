@@ -1,26 +1,25 @@
 -- The map of bytes that have one, and what is said of those that have none.
 use Rattle.std.proofs.Common.{rules, Option, ◌∙◌, sym, inr, take, None, arith, refl, ◌≡◌, ℕ, ap, subst, ◌↔◌, ◌≤◌, Some}
-use Rattle.{std.proofs.lemmas.Option.none-some, embedding_laws.proofs.OneLayout.one_layout_law}
 use Rattle.def_run.specs.Map.{IsHeadedBy, IsMapOf, HasOtherText, asks_of, HasMap, IsNotRefined, IsUnfinished, IsUnlike}
-use Rattle.def_run.specs.Map.{WritesNew}
+use Rattle.def_run.specs.{Map.WritesNew, Check.head_of, declared.command.Command.Command, Judging.IsReason}
+use Rattle.def_run.specs.{Remesh.IsTracedLayout, Remesh.WritesFinished, Mesh.IsMeshText}
+use Rattle.def_run.specs.{declared.check_fail.CheckFail.CheckFail, MapFails.IsMapFail, declared.answer.Why.Why}
 use Rattle.def_run.specs.declared.check_fail.CheckFail.TheVariants.{NotAccepted, NotManifold, Tangled, Far, Marks, Old}
 use Rattle.def_run.specs.declared.command.Command.TheVariants.{Fit, Crease, Refine, Coarse, Size, Remesh}
 use Rattle.def_run.specs.MarkLines.{IsMarkLine, IsLastMark, front_of, HasNoMark, begins_mark}
-use Rattle.def_run.specs.{Check.head_of, declared.command.Command.Command, Judging.IsReason, Remesh.IsTracedLayout}
-use Rattle.def_run.specs.{Remesh.WritesFinished, Mesh.IsMeshText, declared.check_fail.CheckFail.CheckFail}
-use Rattle.def_run.specs.{MapFails.IsMapFail, declared.answer.Why.Why, Refine.WritesRefined}
-use Rattle.def_io.specs.{Bytes.Bytes, Lines.lines_of, Lines.tail_of}
 use Rattle.qm_check.specs.Making.{IsReadyFor, IsFound, IsUnmade, HasMapOf, IsGivenTo}
 use Rattle.qm_check.specs.{Multiples.HasNoPoints, Multiples.IsRefinedBy, Ready.IsOld, Ready.IsNoOld}
 use Rattle.qm_check.specs.{declared.judging.Finished.Finished, declared.ready.Ready.Ready, Judged.judged_by}
-use Rattle.qm_check.specs.{Judged.IsTextFail, Checked.IsDifference}
 use Rattle.def_remesh.specs.{CutSoups.Regrid, CutSoups.CutSoup, Certified.IsShown, NewPoints.lengths_in}
 use Rattle.def_remesh.specs.{NewPoints.multiple_of, Refined.refined_text, Refined.refined_faces}
-use Rattle.def_remesh.specs.{declared.limits.TheConstants.MAX_NEW_FACES}
 use Rattle.qm_check.proofs.{Points.one_ok, Verdicts.shape_of, Verdicts.untangled, Tasks.shown_by}
-use Rattle.{def_certtext.specs.CertLines.used, site_laws.proofs.Laws.graph_law, def_cut.specs.Traced.traced_marks}
-use Rattle.{def_map.specs.MapText.map_text, def_text.specs.FaceSet.FaceSet, def_flow.specs.Network.network}
-use Rattle.{def_layout.specs.Arcs.long_at, def_mesh.specs.Manifold.IsManifold, remesh_laws.proofs.Asides.one_last}
+use Rattle.{std.proofs.lemmas.Option.none-some, embedding_laws.proofs.OneLayout.one_layout_law}
+use Rattle.{def_run.specs.Refine.WritesRefined, def_io.specs.Bytes.Bytes, def_io.specs.Lines.lines_of}
+use Rattle.{def_io.specs.Lines.tail_of, qm_check.specs.Judged.IsTextFail, qm_check.specs.Checked.IsDifference}
+use Rattle.{def_remesh.specs.declared.limits.TheConstants.MAX_NEW_FACES, def_certtext.specs.CertLines.used}
+use Rattle.{site_laws.proofs.Laws.graph_law, def_cut.specs.Traced.traced_marks, def_map.specs.MapText.map_text}
+use Rattle.{def_text.specs.FaceSet.FaceSet, def_flow.specs.Network.network, def_layout.specs.Arcs.long_at}
+use Rattle.{def_mesh.specs.Manifold.IsManifold, remesh_laws.proofs.Asides.one_last}
 use Rattle.def_run.specs.declared.answer.Why.TheVariants as why
 
 -- Without such a line there is no map.
@@ -89,8 +88,7 @@ unlike_of : (command : Command) (bytes : Bytes) (line : ℕ) (why : Why) → IsU
 unlike_of (Refine by) bytes line why none = absurd none.mesh.asked
 unlike_of _ bytes line why none = none
 
-module _ {bytes : Bytes} {line : ℕ} {old : FaceSet} {command : Command}
-    (given : IsGivenTo bytes line old command) where
+module _ {bytes : Bytes} {line : ℕ} {old : FaceSet} {command : Command} (given : IsGivenTo bytes line old command) where
   abbrev front : Bytes
   front = front_of line bytes
 

@@ -92,12 +92,11 @@ module _ (least : Least) (line : Bytes)
 near_point : (command : Command) (line : Bytes) (keep : Keep) (patches : Patches) (settings : Settings)
     (rising : Rising) → AreInRange settings (may_rise rising) → list_all is_inside line ≡ true
     → AreSame (AsksToFind (record { fit = scaled keep patches settings; rising = rising }) line) (asks_of command)
-    → ((bytes : Bytes) (count : ℕ) → RefusesTask (asks_of command) bytes (answers.Tangled count)
-    → RefusesNew command bytes (answers.Tangled count))
-    → ((bytes : Bytes) (fail : MarkFail) → HasAsideFail (scaled keep patches settings) bytes fail
-    → HasLineFail command bytes fail)
-    → ((bytes text : Bytes) → WritesNew command bytes text → WritesFinished (asks_of command) bytes text)
-    → IsPoint command line (record { fit = scaled keep patches settings; rising = rising })
+    → ((bytes : Bytes) (count : ℕ) → RefusesTask (asks_of command) bytes (answers.Tangled count) → RefusesNew command
+    bytes (answers.Tangled count)) → ((bytes : Bytes) (fail : MarkFail) → HasAsideFail (scaled keep patches settings)
+    bytes fail → HasLineFail command bytes fail) → ((bytes text : Bytes) → WritesNew command bytes text
+    → WritesFinished (asks_of command) bytes text) → IsPoint command line
+    (record { fit = scaled keep patches settings; rising = rising })
 near_point command line keep patches settings rising range inside asks refuses lines writes = search rules
 
 abbrev beside : (marks : List Bool) → Asides
@@ -132,12 +131,10 @@ point_by : (command : Command) (line : Bytes) → IsMarkLine line command
 point_by (Remesh settings auto) line is = rw is.written (near_point (Remesh settings auto) (head_line settings auto)
     Nothing Traced settings (third_if auto) (subst (AreInRange settings)
     (elim auto as (λ auto. auto ≡ may_rise (third_if auto)) [ true ↦ refl | false ↦ refl ]) is.in_range)
-    (head_inside settings auto is.in_range)
-    (traced (remeshed settings auto) (head_line settings auto) (λ b s. refl) refl) (λ bytes count why. why)
-    (λ bytes fail has. absurd (ok_or_err refl has.said)) (λ bytes text wrote. wrote))
-point_by (Coarse settings) line is = rw is.written (near_point (Coarse settings)
-    (named_head (codes "coarse") settings) Nothing Merged settings Never is.in_range
-    (named_inside (codes "coarse") settings refl is.in_range)
+    (head_inside settings auto is.in_range) (traced (remeshed settings auto) (head_line settings auto) (λ b s. refl)
+    refl) (λ bytes count why. why) (λ bytes fail has. absurd (ok_or_err refl has.said)) (λ bytes text wrote. wrote))
+point_by (Coarse settings) line is = rw is.written (near_point (Coarse settings) (named_head (codes "coarse") settings)
+    Nothing Merged settings Never is.in_range (named_inside (codes "coarse") settings refl is.in_range)
     (plain (fixed (scaled Nothing Merged settings)) (named_head (codes "coarse") settings) (λ b s. refl))
     (λ bytes count why. why) (λ bytes fail has. absurd (ok_or_err refl has.said)) (λ bytes text wrote. wrote))
 point_by (Crease settings) line is = rw is.written (near_point (Crease settings)
@@ -146,9 +143,12 @@ point_by (Crease settings) line is = rw is.written (near_point (Crease settings)
       λ (asides, cut, said, chosen, is).
           crease_gives settings soup task (marks_in bytes soup) asides cut said chosen is,
       λ (marks, read, is). (beside marks, marked_cut soup.faces marks, ap creased_by read, refl, is),
-    )) (λ bytes count why. inr why) (λ bytes fail has.
-    record { soup = has.soup; mesh = has.mesh; said = crease_fails (marks_in bytes has.soup) fail has.said })
-    (λ bytes text wrote. wrote))
+    )) (λ bytes count why. inr why) (λ bytes fail has. record {
+      soup = has.soup;
+      mesh = has.mesh;
+      said
+          = crease_fails (marks_in bytes has.soup) fail has.said;
+    }) (λ bytes text wrote. wrote))
 point_by (Size edge floor) line is =
     let fit : IsFit (sized edge floor).fit = record {
       aim = (is.low, is.near);

@@ -127,9 +127,8 @@ all_in_reach Third said all few = parted_reach Third said (λ third. refl) all f
 all_in_reach Rounds said all few = search (rules, parts_both, parts_reach)
 
 -- The certificates that a text tells are within the limits.
-pub told_reach : (bytes : Bytes) (line : ℕ) (rising : Rising) (certificates : Certificates)
-    → length bytes ≤ MAX_BYTES → TellCerts rising (drop (line + 1) (lines_of bytes)) certificates
-    → AreInReach rising certificates
+pub told_reach : (bytes : Bytes) (line : ℕ) (rising : Rising) (certificates : Certificates) → length bytes ≤ MAX_BYTES
+    → TellCerts rising (drop (line + 1) (lines_of bytes)) certificates → AreInReach rising certificates
 told_reach bytes line rising certificates few told =
     let behind = drop (line + 1) (lines_of bytes) in
     let all = length-drop (line + 1) (lines_of bytes) in

@@ -221,10 +221,9 @@ module _ (bytes : Bytes) (line : ℕ) {task : Task} {ready : Ready} (is : IsRead
       unused (NotAccepted why) by = bad_by why (subst (λ (t : Terms). AreBad t.settings why) is.laid_out.terms by)
       unused _ by = search by
 
-      module _ {checked : Checked}
-          (right : IsChecked task.wish ready.cut.layout (network ready.net) ready.frame.terms told checked)
-          (between : Vec ℕ Global) (lines : between.items ≡ kept_text (marks_of ready.frame) ready.cut.layout
-          (lengths_in (used (certificates_of checked.remesh.certs)).x)) where
+      module _ {checked : Checked} (right : IsChecked task.wish ready.cut.layout (network ready.net) ready.frame.terms
+          told checked) (between : Vec ℕ Global) (lines : between.items ≡ kept_text (marks_of ready.frame)
+          ready.cut.layout (lengths_in (used (certificates_of checked.remesh.certs)).x)) where
         abbrev certificates : Certificates
         certificates = certificates_of checked.remesh.certs
 
@@ -256,9 +255,8 @@ module _ (bytes : Bytes) (line : ℕ) {task : Task} {ready : Ready} (is : IsRead
         })
 
         -- The text is another one.
-        pub other : (fail : CheckFail)
-            → IsDifference (text_in judged) (framed_text framed ready.cut.soup ready.cut.layout)
-            fail → IsTextFail judged fail
+        pub other : (fail : CheckFail) → IsDifference (text_in judged)
+            (framed_text framed ready.cut.soup ready.cut.layout) fail → IsTextFail judged fail
         other (NotAccepted (why.Byte at)) differ = both (why.Byte at) (record {
           told = told;
           tells = tells;

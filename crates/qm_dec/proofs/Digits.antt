@@ -2,16 +2,15 @@
 use Rattle.std.proofs.Common.{rules, ◌≡◌, ℕ, ◌+◌, ◌-◌, ◌*◌, ◌^◌, ◌<◌, ◌≤◌, true, List, [], ◌∷◌, ◌++◌, length, take}
 use Rattle.std.proofs.Common.{drop, get_or, sym, ap, ◌∙◌, arith, zero, suc, min, inl, inr, false, ◌&&◌, eqb, refl, ℤ}
 use Rattle.std.proofs.Common.{◌/◌, pos, negsuc, ◌-ℤ◌, ◌+ℤ◌, neg_ℤ, cond, ltb, subst}
+use Rattle.std.proofs.{lemmas.Int.Digits.number_after_append, lemmas.List.Folds.list_all-append, lemmas.Int.ints}
 use Rattle.std.proofs.lemmas.List.{map-append, map_push, take_more, take-append-drop, length-drop, length-map}
 use Rattle.std.proofs.lemmas.Bool.{and_parts, and_from, cases_lt, false≢true, lt-ltb, le-ltb}
 use Rattle.std.proofs.Math.Nat.{pow-suc, mul-le-mul_right, pow-le-pow_right, pow-succ', div-eq_of_lt, div-eq_of_lt-le}
-use Rattle.std.proofs.{lemmas.Int.Digits.number_after_append, lemmas.List.Folds.list_all-append, lemmas.Int.ints}
-use Rattle.std.proofs.{lemmas.List.Sums.AllPass-from_list_all}
-use Rattle.def_text.specs.{Digits.number_written, Digits.is_number, Digits.unsigned, Decimal.is_exponent, Decimal.power}
-use Rattle.def_text.specs.{Decimal.scaled}
-use Rattle.{std.specs.Int.Digits.number_from_digits, std.specs.Int.Digits.number_from_digits_after}
-use Rattle.{std.specs.Char.is_ascii_digit, std.specs.List.list_all, qm_dec.specs.Sizes.clamped}
-use Rattle.{qm_scan.proofs.Numbers.values, qm_scan.proofs.Numbers.number_small, qm_scan.proofs.Numbers.digit_small}
+use Rattle.def_text.specs.Digits.{number_written, is_number, unsigned}
+use Rattle.def_text.specs.Decimal.{is_exponent, power, scaled}
+use Rattle.std.specs.{Int.Digits.number_from_digits, Int.Digits.number_from_digits_after, Char.is_ascii_digit}
+use Rattle.qm_scan.proofs.Numbers.{values, number_small, digit_small}
+use Rattle.{std.proofs.lemmas.List.Sums.AllPass-from_list_all, std.specs.List.list_all, qm_dec.specs.Sizes.clamped}
 
 -- what is made of a clamped number by a factor and a summand is clamped like what is made of the number
 pub clamp_linear : (n q r : ℕ) → 1 ≤ q → clamped (clamped n * q + r) ≡ clamped (n * q + r)
@@ -46,9 +45,8 @@ after_is n (v ∷ vs) = let power = ap (λ x. n * x) (pow-suc 10 (length vs)) in
     omega (arith, after_is (n * 10 + v) vs, after_is (0 * 10 + v) vs)
 
 -- one digit more of a loop
-pub after_more : (n : ℕ) (ds : List ℕ) (i : ℕ) → i < length ds
-    → number_from_digits_after 10 n (values (take (i + 1) ds)) ≡ number_from_digits_after 10 n (values (take i ds)) * 10
-    + (get_or ds i 0 - 48)
+pub after_more : (n : ℕ) (ds : List ℕ) (i : ℕ) → i < length ds → number_from_digits_after 10 n
+    (values (take (i + 1) ds)) ≡ number_from_digits_after 10 n (values (take i ds)) * 10 + (get_or ds i 0 - 48)
 after_more n ds i l = ap (λ xs. number_from_digits_after 10 n (values xs)) (take_more ds i 0 l) ∙ ap
     (number_from_digits_after 10 n) (map_push (λ d. d - 48) (take i ds) (get_or ds i 0)) ∙ number_after_append 10 n
     (values (take i ds)) ((get_or ds i 0 - 48) ∷ [])
@@ -122,10 +120,9 @@ cut_exact ds i k all e =
     ∙ number_append front behind ∙ after_is (number_written front) (values behind)
     ∙ ap (λ n. number_written front * 10 ^ n + number_written behind) (length-map behind (λ x. x - 48) ∙ long)
     ∙ ap (λ n. n * 10 ^ k + number_written behind) (after_more 0 ds i (omega arith)))
-    ∙ ap (λ p. (2 * ((number_written (take i ds) * 10 + (get_or ds i 0 - 48)) * 10 ^ k + number_written behind) + p)
-    / (2 * p)) (pow-succ' 10 k)
-    ∙ rounding (number_written (take i ds)) (get_or ds i 0 - 48) (number_written behind) (10 ^ k) (get_or ds i 0) small
-    (omega (arith, d)) (omega (arith, d))
+    ∙ ap (λ p. (2 * ((number_written (take i ds) * 10 + (get_or ds i 0 - 48)) * 10 ^ k + number_written behind) + p) /
+    (2 * p)) (pow-succ' 10 k) ∙ rounding (number_written (take i ds)) (get_or ds i 0 - 48) (number_written behind)
+    (10 ^ k) (get_or ds i 0) small (omega (arith, d)) (omega (arith, d))
 
 -- fewer digits than are cut: less than a half
 pub cut_zero : (ds : List ℕ) (k : ℕ) → list_all is_ascii_digit ds ≡ true → length ds ≤ k

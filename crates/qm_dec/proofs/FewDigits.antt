@@ -79,10 +79,9 @@ whole_size word {body} {rest} {count} short is prefix some behind none =
     rw prefix.is (parts_are {fs = []} ds (plain_parts word ds (sym is ∙ body_is) prefix.all) short
     (omega (arith, prefix.long)) (omega (arith, prefix.long, prefix.nine)) prefix.all refl (omega arith))
 
-pub pointed_size : (word : List ℕ) {body rest fraction : List ℕ} {count n : ℕ} (size : ℕ) → length word ≤ 64 → body
-    ≡ unsigned word
-    → IsPrefix body count n → (count ≡ 0 → ⊥) → rest ≡ drop count body → 0 < length rest → get_or rest 0 0 ≡ 46
-    → fraction ≡ drop 1 rest → (list_all is_ascii_digit fraction ≡ true) × (length fraction ≤ 6)
+pub pointed_size : (word : List ℕ) {body rest fraction : List ℕ} {count n : ℕ} (size : ℕ) → length word ≤ 64
+    → body ≡ unsigned word → IsPrefix body count n → (count ≡ 0 → ⊥) → rest ≡ drop count body → 0 < length rest
+    → get_or rest 0 0 ≡ 46 → fraction ≡ drop 1 rest → (list_all is_ascii_digit fraction ≡ true) × (length fraction ≤ 6)
     × (size ≡ number_from_digits_after 10 n (values fraction) * 10 ^ (6 - length fraction)) → IsSize word size
 pointed_size word {body} {rest} {fraction} {count} {n} size short is prefix some behind more point tail good =
     let ds = take count body in

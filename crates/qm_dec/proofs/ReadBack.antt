@@ -2,24 +2,22 @@
 use Rattle.std.proofs.Common.{rules, ◌≡◌, ℕ, ◌+◌, ◌%◌, ◌^◌, ◌<◌, Bool, true, false, not, cond, eqb, List, [], ◌∷◌, ◌++◌}
 use Rattle.std.proofs.Common.{length, ap, ◌∙◌, refl, arith, get_or, ◌≤◌, take, drop, sym, ap₂, ◌-◌, ◌/◌, set, zero, suc}
 use Rattle.std.proofs.Common.{◌*◌, pos, negsuc, neg_ℤ, inl, inr, length-append}
+use Rattle.std.proofs.{lemmas.List.Sums.passes_at_first, lemmas.List.Sums.suffix_len-le-length, lemmas.List.append-nil}
+use Rattle.std.proofs.{lemmas.List.Folds.list_all-append, Math.Seq.drop-cons, Math.Seq.drop-append-add}
 use Rattle.std.proofs.lemmas.Bool.{not-true, and_parts, and_from, le-leb, not_from_true, ne_eqb, false≢true, eqb-true}
 use Rattle.std.proofs.lemmas.Bool.{or_from, le-ltb, cases_eq, cond-true, cond-false, cases_Bool}
-use Rattle.std.proofs.lemmas.List.{Sums.list_all-from_AllPass, Sums.AllPass-from_list_all, Sums.position_or_len_is}
-use Rattle.std.proofs.lemmas.List.{Sums.passes_at_first, Sums.suffix_len-le-length, get_or-drop, length-drop, take_at}
-use Rattle.std.proofs.lemmas.List.{drop_at, take-append-drop, reverse-append, take-append-le, take_all, length_push}
-use Rattle.std.proofs.lemmas.List.{length-take, drop_all, take_more, length-map, append-nil}
+use Rattle.std.proofs.lemmas.List.Sums.{list_all-from_AllPass, AllPass-from_list_all, position_or_len_is}
+use Rattle.std.proofs.lemmas.List.{get_or-drop, length-drop, take_at, drop_at, take-append-drop, reverse-append}
+use Rattle.std.proofs.lemmas.List.{take-append-le, take_all, length_push, length-take, drop_all, take_more, length-map}
 use Rattle.std.proofs.lemmas.Fmt.{decimal_by_steps, length-decimal-le, decimal_digit, decimal_step, decimal_nonempty}
-use Rattle.std.proofs.{lemmas.List.Folds.list_all-append, Math.Seq.drop-cons, Math.Seq.drop-append-add}
-use Rattle.std.proofs.{lemmas.Nat.pow-add, Math.Nat.pow-suc}
-use Rattle.std.specs.{Prelude.decimal, Char.is_ascii_digit, List.list_all, List.position_or_len, List.prefix_len}
-use Rattle.std.specs.{List.suffix_len, List.before_first}
+use Rattle.std.specs.List.{list_all, position_or_len, prefix_len, suffix_len, before_first}
 use Rattle.def_text.specs.Canonical.{fraction_text, six_digits, without_zeros, micro_text}
+use Rattle.def_text.specs.{Decimal.rounded_size, Corner.is_slash, Ratio.IsRatio, Laws.CanonicalLaw}
 use Rattle.def_text.specs.Decimal.{all_digits, exponent, fraction_digits, is_decimal, is_mark, is_point, mantissa}
-use Rattle.def_text.specs.Decimal.{rounded_size}
-use Rattle.def_text.specs.{Digits.number_written, Digits.is_negative, Digits.unsigned, Corner.is_slash, Ratio.IsRatio}
-use Rattle.def_text.specs.{Laws.CanonicalLaw}
+use Rattle.def_text.specs.Digits.{number_written, is_negative, unsigned}
 use Rattle.qm_dec.proofs.Digits.{number_append, after_is, digits_split, number_both}
-use Rattle.qm_scan.proofs.Numbers.{digit_small, values}
+use Rattle.{std.proofs.lemmas.Nat.pow-add, std.proofs.Math.Nat.pow-suc, std.specs.Prelude.decimal}
+use Rattle.{std.specs.Char.is_ascii_digit, qm_scan.proofs.Numbers.digit_small, qm_scan.proofs.Numbers.values}
 
 glyph : (d : ℕ) → d < 10 → is_ascii_digit (48 + d) ≡ true
 glyph d l = and_from _ _ (le-leb 48 (48 + d) (omega arith)) (le-leb (48 + d) 57 (omega arith))
@@ -85,10 +83,9 @@ first_passes b xs l =
 pub joined : (word : List ℕ) (p q : ℕ) → 0 < length (drop (position_or_len is_slash word) word)
     → take (position_or_len is_slash word) word ≡ decimal p
     → drop 1 (drop (position_or_len is_slash word) word) ≡ decimal q → word ≡ decimal p ++ 47 ∷ decimal q
-joined word p q l above below =
-    sym (take-append-drop (position_or_len is_slash word) word)
-    ∙ ap₂ (λ (xs ys : List ℕ). xs ++ ys) above (drop-cons _ 0 0 l
-    ∙ ap₂ (λ y (ys : List ℕ). y ∷ ys) (eqb-true _ _ (first_passes is_slash word l)) below)
+joined word p q l above below = sym (take-append-drop (position_or_len is_slash word) word)
+    ∙ ap₂ (λ (xs ys : List ℕ). xs ++ ys) above (drop-cons _ 0 0 l ∙ ap₂ (λ y (ys : List ℕ). y ∷ ys)
+    (eqb-true _ _ (first_passes is_slash word l)) below)
 
 -- The canonical text of a number: zeros at the end of digits, and lengths.
 

@@ -3,17 +3,13 @@ use Rattle.std.proofs.Common.{rules, ◌≡◌, ℕ, zero, suc, ◌+◌, ◌<◌
 use Rattle.std.proofs.Common.{sym, ◌∙◌, ap, inl, inr, ◌⊎◌, arith, ◌*◌, ◌^◌, not, cond, length, ℤ, pos, ◌+ℤ◌, ◌-ℤ◌, eqb}
 use Rattle.std.proofs.Common.{[], ◌∷◌, ◌*ℤ◌, Option, Some, None}
 use Rattle.std.proofs.lemmas.Bool.{or_left, or_right, cases_eq, eq-eqb, ne_eqb, false_from_ne_true}
-use Rattle.std.proofs.{lemmas.Bool.Decides.nat_tests, lemmas.List.get_or_past, lemmas.Int.ints}
+use Rattle.std.proofs.{lemmas.List.get_or_past, lemmas.Int.ints}
 use Rattle.std.specs.Prelude.{slice_index, unsigned_abs}
-use Rattle.def_matching.specs.Dual.{AreNestedSets, is_up, DualLists, AreSmall, IsSmallDual, z_at}
+use Rattle.def_matching.specs.Dual.{AreNestedSets, DualLists, AreSmall, IsSmallDual, z_at}
 use Rattle.qm_dual.specs.Nest.{climbs, around, apart, named_sum, AreSums, IsMeeting}
 use mir.{Syntax.w128, Val.to_z, Val.of_z}
 use Rattle.def_math.specs.{Sums.total_below, Sums.total, Counts.count, Searches.least, Searches.or_this}
 use Rattle.sum_laws.proofs.Sums.{total_below_same, total_below_sum, total_below_none, total_below_one}
-
--- An entry of a lawful `up` is 0, or names a set at a later place.
-entry_later : (n m i entry : ℕ) → is_up n m i entry ≡ true → (entry ≡ 0) ⊎ ((i + 1 < n + entry) × (entry ≤ m))
-entry_later n m i entry on = grind (arith, nat_tests)
 
 -- No set: nothing is passed.
 pub climb_none : (n : ℕ) (up : List ℕ) (steps k : ℕ) → climbs n up steps k 0 ≡ false
@@ -24,10 +20,6 @@ pub passed_on : (j k : ℕ) (rest : Bool) → ((j == k) || rest) ≡ true → (j
 passed_on j k rest on = elim (cases_eq j k) [ inl e ↦ inl e | inr ne ↦ inr (rw (ne_eqb j k ne) at on) ]
 
 module _ {n m : ℕ} {up : List ℕ} (nested : AreNestedSets n m up) where
-  -- A vertex's entry names one of the sets, or none.
-  pub entry_low : (v : ℕ) → v < n → slice_index up v ≤ m
-  entry_low v l = omega (arith, entry_later n m v (slice_index up v) (nested.later v (omega arith)))
-
   -- The set around a set is none, or a later one.
   pub set_later : (j : ℕ) → (slice_index up (n + j) ≡ 0)
       ⊎ ((j + 1 < slice_index up (n + j)) × (slice_index up (n + j) ≤ m))
@@ -49,11 +41,8 @@ module _ {n m : ℕ} {up : List ℕ} (nested : AreNestedSets n m up) where
       ap (λ b. (j == k) || b) (more_steps steps k (slice_index up (n + j)) (omega arith) (λ ne. omega arith))
 
   -- One set up.
-  pub climb_on : (k j : ℕ) → j < m
-      → climbs n up m k (suc j) ≡ ((j == k) || climbs n up m k (slice_index up (n + j)))
-  climb_on k j l =
-      let p = set_later j in
-      sym (more_steps m k (suc j) (omega arith) (λ ne. omega arith))
+  pub climb_on : (k j : ℕ) → j < m → climbs n up m k (suc j) ≡ ((j == k) || climbs n up m k (slice_index up (n + j)))
+  climb_on k j l = let p = set_later j in sym (more_steps m k (suc j) (omega arith) (λ ne. omega arith))
 
   -- A climb from a set passes it, and what is passed from the set around it.
   pub climbs_itself : (k : ℕ) → k < m → climbs n up m k (suc k) ≡ true
@@ -65,13 +54,12 @@ module _ {n m : ℕ} {up : List ℕ} (nested : AreNestedSets n m up) where
   -- Only later sets are passed, and no climb is from none.
   pub passed_later : (steps k entry : ℕ) → entry ≤ m → climbs n up steps k entry ≡ true
       → (0 < entry) × (entry ≤ suc k) × (k < m)
-  passed_later (suc steps) k (suc j) low on =
-      elim (passed_on j k (climbs n up steps k (slice_index up (n + j))) on) [
-        | inl e ↦ (omega arith, omega arith, omega arith)
-        | inr there ↦ (let p = set_later j in
-            let rest = passed_later steps k (slice_index up (n + j)) (omega arith) there in
-            (omega arith, omega arith, omega arith))
-      ]
+  passed_later (suc steps) k (suc j) low on = elim (passed_on j k (climbs n up steps k (slice_index up (n + j))) on) [
+    | inl e ↦ (omega arith, omega arith, omega arith)
+    | inr there ↦ (let p = set_later j in
+        let rest = passed_later steps k (slice_index up (n + j)) (omega arith) there in
+        (omega arith, omega arith, omega arith))
+  ]
   passed_later (suc steps) k zero low on = absurd cc
   passed_later zero k entry low on = absurd cc
 
@@ -111,8 +99,7 @@ pub around_step : (n : ℕ) (d : DualLists) → AreNestedSets n (length d.z) d.u
 around_step n d nested j l =
     let own : ℕ → ℤ = λ (k : ℕ). cond (j == k) (z_at d k) (pos 0) in
     let rest : ℕ → ℤ = λ (k : ℕ). cond (climbs n d.up (length d.z) k (slice_index d.up (n + j))) (z_at d k) (pos 0) in
-    let parts : around n d (suc j) ≡ total_below (λ k. own k +ℤ rest k) (length d.z) =
-    total_below_same _ _ (length d.z)
+    let parts : around n d (suc j) ≡ total_below (λ k. own k +ℤ rest k) (length d.z) = total_below_same _ _ (length d.z)
     (λ k lk. ap (λ b. cond b (z_at d k) (pos 0)) (climb_on nested k j l) ∙ by_tests k (cases_eq j k)) in
     let here : own j ≡ z_at d j = ap (λ b. cond b (z_at d j) (pos 0)) (eq-eqb j j refl) in
     let sum = total_below_sum own rest (length d.z) in
@@ -150,8 +137,7 @@ apart_sums n d sums are a b entry la lb le meets =
     let from : ℕ → ℕ → ℤ = λ (e k : ℕ). cond (climbs n d.up (length d.z) k e) (z_at d k) (pos 0) in
     let both = from entry in
     let parts : total_below (λ k. crossing k +ℤ (both k +ℤ both k)) (length d.z)
-    ≡ total_below (λ k. from a k +ℤ from b k) (length d.z) =
-    total_below_same _ _ (length d.z)
+    ≡ total_below (λ k. from a k +ℤ from b k) (length d.z) = total_below_same _ _ (length d.z)
     (λ k l. ap (λ x. crossing k +ℤ (cond x (z_at d k) (pos 0) +ℤ cond x (z_at d k) (pos 0))) (meets k)
     ∙ grind (arith, ints)) in
     let one = total_below_sum crossing (λ k. both k +ℤ both k) (length d.z) in
@@ -210,8 +196,7 @@ ends_sum {X} u v f n (x ∷ xs) below =
     let left : ℕ → ℤ = λ (k : ℕ). pos (hit (u x) k) *ℤ f k in
     let right : ℕ → ℤ = λ (k : ℕ). pos (hit (v x) k) *ℤ f k in
     let parts : total_below (λ k. pos (hit (u x) k + hit (v x) k + count (λ (e : X). hit (u e) k + hit (v e) k) xs) *ℤ f
-    k) n ≡ total_below (λ k. (left k +ℤ right k) +ℤ rest k) n =
-    total_below_same _ _ n (λ k l. omega (
+    k) n ≡ total_below (λ k. (left k +ℤ right k) +ℤ rest k) n = total_below_same _ _ n (λ k l. omega (
       arith,
       ints,
       plus_times (hit (u x) k + hit (v x) k) (count (λ (e : X). hit (u e) k + hit (v e) k) xs) (f k),

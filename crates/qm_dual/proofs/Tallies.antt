@@ -1,18 +1,16 @@
 -- Sums along a list as sums over its places.
 use Rattle.std.proofs.Common.{rules, ◌≡◌, ℕ, zero, suc, ◌+◌, ◌<◌, List, [], ◌∷◌, length, get_or, take, ℤ, ◌+ℤ◌, refl}
 use Rattle.std.proofs.Common.{◌∙◌, ap, arith, ◌-◌, ◌≤◌, ◌≢◌, ◌==◌, ◌&&◌, Bool, true, false, max, sym, subst, inl, inr}
-use Rattle.std.proofs.Common.{◌⊎◌, cond, min}
+use Rattle.std.proofs.{Common.◌⊎◌, Common.cond, Common.min, lemmas.Int.ints, lemmas.Bool.Decides.nat_tests}
 use Rattle.std.proofs.lemmas.List.{take_more, get_or_past, length-set}
 use Rattle.std.proofs.lemmas.Bool.{cases_eq, cases_lt, and_parts, and_from, eq-eqb, ne_eqb, cond-false}
-use Rattle.std.{proofs.lemmas.Int.ints, proofs.lemmas.Bool.Decides.nat_tests, specs.Prelude.slice_index}
-use Rattle.def_math.specs.{Sums.total, Sums.total_below, Counts.count_below}
-use Rattle.sum_laws.proofs.{Sums.total_append, Sums.count_below_none, Sums.count_below_same, Sums.count_below_sum}
-use Rattle.sum_laws.proofs.{Tests.same_test, Tests.once_at_most}
-use Rattle.def_matching.specs.Dual.{AreNestedSets, DualLists}
+use Rattle.sum_laws.proofs.Sums.{total_append, count_below_none, count_below_same, count_below_sum}
 use Rattle.qm_dual.specs.Nest.{climbs, AreHeads, IsMeeting, HaveSameSets, stand_of, tally, tally_with, AreTallies}
-use Rattle.qm_dual.specs.Nest.{AreSizes}
 use Rattle.qm_dual.proofs.Gathered.{set_later, around_later, climb_none, climbs_itself, climb_over, passed_on}
 use Rattle.qm_dual.proofs.Gathered.{passed_later, passed_further, climb_on}
+use Rattle.{std.specs.Prelude.slice_index, def_math.specs.Sums.total, def_math.specs.Sums.total_below}
+use Rattle.{def_math.specs.Counts.count_below, sum_laws.proofs.Tests.same_test, sum_laws.proofs.Tests.once_at_most}
+use Rattle.{def_matching.specs.Dual.AreNestedSets, def_matching.specs.Dual.DualLists, qm_dual.specs.Nest.AreSizes}
 
 -- The first term of a sum below a bound.
 pub total_below_prefix : (f : ℕ → ℤ) (n : ℕ) → total_below f (suc n) ≡ f 0 +ℤ total_below (λ k. f (suc k)) n
@@ -152,8 +150,7 @@ module _ {n m : ℕ} {up heads : List ℕ} (nested : AreNestedSets n m up) (are 
   leave_path a b i j ai bj la lb lower k =
       let t : ℕ = slice_index heads i - 1 in
       let top : slice_index heads i ≡ suc t = omega (arith, head_later i (omega arith)) in
-      rw (ai, bj) (same_test _ _
-      (λ on. let both = and_parts (climbs n up m k (suc i)) (climbs n up m k (suc j)) on in
+      rw (ai, bj) (same_test _ _ (λ on. let both = and_parts (climbs n up m k (suc i)) (climbs n up m k (suc j)) on in
       let inner = (passed_later nested m k (suc i) (omega arith) both.0).2 in
       elim (past_head m k i t (omega arith) top both.0) [
         | inr p ↦ (let around = set_later nested t in
@@ -164,9 +161,8 @@ module _ {n m : ℕ} {up heads : List ℕ} (nested : AreNestedSets n m up) (are 
       (λ on. let both = and_parts (climbs n up m k (slice_index up (n + t))) (climbs n up m k (suc j)) on in
       and_from _ _ (from_head m k i t (omega arith) (omega arith) top both.0) both.1))
 
-  pub leave_path_back : (a b i j : ℕ) → a ≡ suc i → b ≡ suc j → a ≤ m → b ≤ m
-      → slice_index heads j < slice_index heads i
-      → HaveSameSets n m up a b a (slice_index up (n + (slice_index heads j - 1)))
+  pub leave_path_back : (a b i j : ℕ) → a ≡ suc i → b ≡ suc j → a ≤ m → b ≤ m → slice_index heads j < slice_index heads
+      i → HaveSameSets n m up a b a (slice_index up (n + (slice_index heads j - 1)))
   leave_path_back a b i j ai bj la lb lower k = swapped (climbs n up m k a) (climbs n up m k b)
       ∙ (leave_path b a j i bj ai lb la lower k
       ∙ swapped (climbs n up m k (slice_index up (n + (slice_index heads j - 1)))) (climbs n up m k a))
@@ -174,8 +170,7 @@ module _ {n m : ℕ} {up heads : List ℕ} (nested : AreNestedSets n m up) (are 
   -- On one path the later set is the least around both.
   one_path : (a b : ℕ) → a ≤ b → b < m → slice_index heads a ≡ slice_index heads b
       → IsMeeting n m up (suc a) (suc b) (suc b)
-  one_path a b le low same k = same_test _ _
-      (λ on. and_from _ _ (passed_further nested m b k (suc a) (omega arith)
+  one_path a b le low same k = same_test _ _ (λ on. and_from _ _ (passed_further nested m b k (suc a) (omega arith)
       (path_chain m a b (omega arith) le low same) on) on)
       (λ on. (and_parts (climbs n up m k (suc a)) (climbs n up m k (suc b)) on).1)
 
@@ -198,8 +193,7 @@ module _ {n m : ℕ} {up : List ℕ} (nested : AreNestedSets n m up) where
   stands_later (suc t) entry low = search (rules, stands_later t entry low)
 
   -- Passing on changes nothing for the later sets.
-  climb_from_stand : (t k entry : ℕ) → t ≤ k → k < m
-      → climbs n up m k (stand_of n up t entry) ≡ climbs n up m k entry
+  climb_from_stand : (t k entry : ℕ) → t ≤ k → k < m → climbs n up m k (stand_of n up t entry) ≡ climbs n up m k entry
   climb_from_stand zero k entry le l = refl
   climb_from_stand (suc t) k entry le l = search (rules, climb_on, climb_from_stand t k entry (omega arith) l)
 
@@ -209,8 +203,7 @@ module _ {n m : ℕ} {up : List ℕ} (nested : AreNestedSets n m up) where
       let stand = stand_of n up k entry in
       let rest = climb_from_stand k k entry (omega arith) l in
       let later = stands_later k entry low in
-      same_test _ _
-      (λ on. let e : stand ≡ suc k = grind (arith, nat_tests) in
+      same_test _ _ (λ on. let e : stand ≡ suc k = grind (arith, nat_tests) in
       sym rest ∙ ap (climbs n up m k) e ∙ climbs_itself nested k l)
       (λ on. eq-eqb stand (suc k) (omega (arith, passed_later nested m k stand later.1 (rest ∙ on))))
 
@@ -223,11 +216,9 @@ stand_step n up k j entry other = search rules
 -- A tally when one more set has passed on.
 tally_step : (n : ℕ) (up : List ℕ) (vertices k j : ℕ) → j ≢ k → tally n up vertices (suc k) j
     ≡ tally n up vertices k j + cond (slice_index up (n + k) == suc j) (tally n up vertices k k) 0
-tally_step n up vertices k j other =
-    count_below_same _ _ vertices (λ v l. stand_step n up k j (slice_index up v) other)
+tally_step n up vertices k j other = count_below_same _ _ vertices (λ v l. stand_step n up k j (slice_index up v) other)
     ∙ (count_below_sum (λ v. cond (stand_of n up k (slice_index up v) == suc j) 1 0)
-    (λ v. cond (slice_index up (n + k) == suc j) (cond (stand_of n up k (slice_index up v) == suc k) 1 0) 0)
-    vertices
+    (λ v. cond (slice_index up (n + k) == suc j) (cond (stand_of n up k (slice_index up v) == suc k) 1 0) 0) vertices
     ∙ ap (λ x. tally n up vertices k j + x) (by_test (slice_index up (n + k) == suc j)))
   where
     by_test : (b : Bool) → count_below (λ v. cond b (cond (stand_of n up k (slice_index up v) == suc k) 1 0) 0) vertices

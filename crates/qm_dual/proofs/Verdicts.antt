@@ -1,16 +1,14 @@
 -- The verdict yes is that the dual says yes.
 use Rattle.std.proofs.Common.{rules, ◌≡◌, ℕ, ◌+◌, ◌<◌, ◌==◌, Bool, true, false, not, cond, List, length, ℤ, pos, ◌*ℤ◌}
 use Rattle.std.proofs.Common.{◌≤ℤ◌, ◌^◌, ◌≤◌, Option, Some, None, IfNone, Result, Ok, Err, IfOk, refl, sym, ◌∙◌, ap}
-use Rattle.std.proofs.Common.{arith}
-use Rattle.std.proofs.{lemmas.Int.ints, lemmas.Bool.not-false}
-use Rattle.std.specs.Prelude.{int_lt, slice_index, slice_index_or}
-use Rattle.qm_dual.proofs.{Gathered.least_none, Gathered.least_some, Gathered.least_same, Gathered.none_below}
-use Rattle.qm_dual.proofs.{Weak.weak_duality}
+use Rattle.std.specs.{Prelude.int_lt, Prelude.slice_index, Prelude.slice_index_or}
+use Rattle.qm_dual.proofs.Gathered.{least_none, least_some, least_same, none_below}
 use Rattle.def_matching.specs.declared.weighted.Verdict.TheVariants.{Yes, Shape, Even, Negative, Short}
 use Rattle.def_matching.specs.Matching.{WeightedGraph, IsGraph, edge_at, IsPerfect, matching_cost}
 use Rattle.def_matching.specs.Dual.{DualLists, AreNestedSets, SaysYes, set_size, is_odd_size, is_up, load, z_at}
 use Rattle.def_matching.specs.Dual.{dual_sum, shape_fault, even_fault, negative_fault, short_fault, refuse, verdict}
-use Rattle.def_matching.specs.declared.weighted.Verdict.{Verdict}
+use Rattle.{std.proofs.Common.arith, std.proofs.lemmas.Int.ints, std.proofs.lemmas.Bool.not-false}
+use Rattle.{qm_dual.proofs.Weak.weak_duality, def_matching.specs.declared.weighted.Verdict.Verdict}
 use Rattle.{def_math.specs.Searches.least, qm_dual.specs.Nest.AreSizes, qm_dual.specs.Nest.IsNest}
 
 -- The load of an edge is above twice its cost.
@@ -99,19 +97,16 @@ short_found g d k sum cost l before is twice above =
     rw (least_some (is_short g d) (length g.edges) k l before here, is, twice) refl
 
 -- Yes, where no load is too great.
-pub none_short : (g : WeightedGraph) (d : DualLists) (sum : ℤ)
-    → ((j : ℕ) → j < length g.edges → is_short g d j ≡ false) → sum ≡ dual_sum d
-    → Yes sum ≡ short_or_yes g d (short_fault g d)
+pub none_short : (g : WeightedGraph) (d : DualLists) (sum : ℤ) → ((j : ℕ) → j < length g.edges → is_short g d j ≡ false)
+    → sum ≡ dual_sum d → Yes sum ≡ short_or_yes g d (short_fault g d)
 none_short g d sum off is = rw (least_none (is_short g d) (length g.edges) off, is) refl
 
 -- The verdict on a dual of the right shape, where tables of the sizes and of the numbers have been searched.
 pub shaped_verdict : (g : WeightedGraph) (d : DualLists) {n : ℕ} → n ≡ g.n → length d.y ≡ n
     → AreNestedSets n (length d.z) d.up → (sizes table : List ℕ) (z : List ℤ) → AreSizes n d sizes → table ≡ sizes
-    → z ≡ d.z → (even negative : Option ℕ)
-    → even ≡ least (λ k. not (is_odd_size (slice_index table k))) (length table)
-    → negative ≡ least (λ k. int_lt (slice_index_or z k (pos 0)) (pos 0)) (length z)
-    → verdict g d ≡ refuse even (λ k. Even k (set_size g.n d k))
-    (refuse negative (λ k. Negative k) (short_or_yes g d (short_fault g d)))
+    → z ≡ d.z → (even negative : Option ℕ) → even ≡ least (λ k. not (is_odd_size (slice_index table k))) (length table)
+    → negative ≡ least (λ k. int_lt (slice_index_or z k (pos 0)) (pos 0)) (length z) → verdict g d ≡ refuse even
+    (λ k. Even k (set_size g.n d k)) (refuse negative (λ k. Negative k) (short_or_yes g d (short_fault g d)))
 shaped_verdict g d over numbers nested sizes table z are whole all even negative found below =
     let shape : shape_fault g.n d ≡ None = rw (← over) (no_shape_fault _ d numbers nested) in
     let odd : even_fault g.n d ≡ even = sym (found ∙ ap (λ xs. least (λ k. not (is_odd_size (slice_index xs k)))

@@ -21,10 +21,9 @@ starts_told faces starts marks none begun breaks d one two three result l s e ea
     ∙ (ap (λ (xs : List Bool). cond (is_among d starts) true (is_on xs d)) e
     ∙ (ap (cond (is_among d starts) true) (none_on (darts faces) d) ∙ (plain (is_among d starts)
     ∙ (ap (is_among d) s ∙ same_test _ _ (λ m. (start_of faces d m).1) (λ y. start_in faces d l y))))) in
-    let broken : is_on breaks (from_of faces d) ≡ is_break faces marks (from_of faces d) =
-    ap (λ (xs : List Bool). is_on xs (from_of faces d)) b
-    ∙ get_or-map-range_with_len (is_break faces marks) 0 (vertex_count faces) (from_of faces d) (from_of faces d) false
-    (all_below faces d l) (omega arith) in
+    let broken : is_on breaks (from_of faces d) ≡ is_break faces marks (from_of faces d) = ap (λ (xs : List Bool). is_on
+    xs (from_of faces d)) b ∙ get_or-map-range_with_len (is_break faces marks) 0 (vertex_count faces) (from_of faces d)
+    (from_of faces d) false (all_below faces d l) (omega arith) in
     is ∙ rw (is_one ∙ here, is_two ∙ ap (λ x. is_some (twin_of faces d) && x) broken, is_three) refl
   where
     plain : (b : Bool) → cond b true false ≡ b
@@ -38,6 +37,5 @@ filter_on p n is = filter_range_more p n ∙ ap (λ (b : Bool). filter p (range_
 
 pub filter_off : (p : ℕ → Bool) (n : ℕ) → p n ≡ false
     → filter p (range_with_len 0 (n + 1)) ≡ filter p (range_with_len 0 n)
-filter_off p n is = filter_range_more p n
-    ∙ (ap (λ (b : Bool). filter p (range_with_len 0 n) ++ cond b (n ∷ []) []) is
+filter_off p n is = filter_range_more p n ∙ (ap (λ (b : Bool). filter p (range_with_len 0 n) ++ cond b (n ∷ []) []) is
     ∙ append-nil (filter p (range_with_len 0 n)))

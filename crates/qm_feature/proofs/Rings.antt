@@ -2,24 +2,22 @@
 -- darts goes all round.
 use Rattle.std.proofs.Common.{◌≡◌, ℕ, zero, suc, ◌+◌, ◌-◌, ◌<◌, ◌≤◌, Bool, true, false, not, List, length, get_or}
 use Rattle.std.proofs.Common.{Option, Some, None, sym, subst, ap, ◌∙◌, refl, inl, inr, arith, cond, eqb, ◌&&◌, ◌||◌, []}
-use Rattle.std.proofs.Common.{◌⊎◌, min, set}
+use Rattle.std.proofs.{Common.◌⊎◌, Common.min, Common.set, lemmas.Option.none-some, lemmas.Option.same_Some}
 use Rattle.std.proofs.lemmas.Bool.{cases_lt, cases_order, eq-eqb, eqb-true, le-ltb, lt-ltb, and_from, and_parts}
 use Rattle.std.proofs.lemmas.Bool.{not_from_false, false≢true, true_from_ne_false, cases_eq}
 use Rattle.std.proofs.lemmas.List.{get_or-map, length-map, get_or-set_same, get_or-set_other, length-set}
-use Rattle.std.proofs.lemmas.Option.{none-some, same_Some}
-use Rattle.def_mesh.specs.{Faces.Faces, Darts.darts, Darts.from_of, Darts.to_of, Darts.next_of, Darts.twin_of}
-use Rattle.def_mesh.specs.{Darts.all_darts, Manifold.IsManifold, HalfEdges.half_edges, Vertices.fan_of}
-use Rattle.def_mesh.specs.{Vertices.vertex_count}
+use Rattle.def_mesh.specs.{Faces.Faces, Manifold.IsManifold, HalfEdges.half_edges, Vertices.fan_of}
+use Rattle.def_mesh.specs.Darts.{darts, from_of, to_of, next_of, twin_of, all_darts}
 use Rattle.def_runs.specs.Runs.{AreRuns, HasDart, IsLongestRun, first_dart, follower, is_closed, is_dart, is_passed}
-use Rattle.def_runs.specs.Runs.{last_dart, nth_run}
-use Rattle.def_runs.specs.declared.RunTable.{RunTable}
-use Rattle.def_cut.specs.{FullCut.is_on, Trails.IsStraight, Traced.terrain_of}
-use Rattle.def_feature.specs.Marks.{goes_round, is_least_in_ring}
-use Rattle.motion_laws.proofs.{Steps.straight_same, Among.among_range, Among.any_at, Among.any_where, Among.range_among}
+use Rattle.def_runs.specs.{Runs.last_dart, Runs.nth_run, declared.RunTable.RunTable}
+use Rattle.motion_laws.proofs.Among.{among_range, any_at, any_where, range_among}
 use Rattle.qm_feature.specs.Rings.{run_at, AreLeast, AreWhole, is_home, least_at}
-use Rattle.feature_laws.proofs.Breaks.{from_fan, in_fan}
-use Rattle.{std.specs.Prelude.option_map, std.specs.List.list_any, cut_laws.proofs.Pigeon.no_more}
-use Rattle.{site_laws.proofs.Sites.terrain, sum_laws.proofs.Tests.same_test, mesh_laws.proofs.Flood.all_below}
+use Rattle.{def_mesh.specs.Vertices.vertex_count, def_cut.specs.FullCut.is_on, def_cut.specs.Trails.IsStraight}
+use Rattle.{def_cut.specs.Traced.terrain_of, def_feature.specs.Marks.goes_round}
+use Rattle.{def_feature.specs.Marks.is_least_in_ring, motion_laws.proofs.Steps.straight_same}
+use Rattle.{feature_laws.proofs.Breaks.from_fan, feature_laws.proofs.Breaks.in_fan, std.specs.Prelude.option_map}
+use Rattle.{std.specs.List.list_any, cut_laws.proofs.Pigeon.no_more, site_laws.proofs.Sites.terrain}
+use Rattle.{sum_laws.proofs.Tests.same_test, mesh_laws.proofs.Flood.all_below}
 
 -- The run is closed, all its darts are marked, and none leaves a vertex below v.
 pub record IsRing (faces : Faces) (runs run : List ℕ) (marks : List Bool) (v r : ℕ) : Type 0 where
@@ -300,23 +298,20 @@ module _ {faces : Faces} (m : IsManifold faces) {table : RunTable} (are : AreRun
 -- The same of the tables as the calls hand them on.
 pub rings_told : {faces : Faces} (m : IsManifold faces) {table : RunTable} (are : AreRuns faces table)
     {marks : List Bool} {run1 run2 run3 : List ℕ} {old whole1 whole : List Bool} {least1 least : List ℕ}
-    (rings1 rings : List Bool) {none : ℕ} (v : ℕ)
-    → run1 ≡ table.run.items → run2 ≡ table.run.items → run3 ≡ table.run.items → old ≡ table.closed.items
-    → AreWhole marks run1 old whole1 (length run1) → whole ≡ whole1
+    (rings1 rings : List Bool) {none : ℕ} (v : ℕ) → run1 ≡ table.run.items → run2 ≡ table.run.items
+    → run3 ≡ table.run.items → old ≡ table.closed.items → AreWhole marks run1 old whole1 (length run1) → whole ≡ whole1
     → AreLeast faces run2 least1 none (length run2) → least ≡ least1 → length least1 ≡ length table.closed.items
     → vertex_count faces ≤ none → is_on rings1 v ≡ false
     → is_on rings v ≡ (is_on rings1 v || list_any (λ d. eqb (from_of faces d) v && is_home faces run3 whole least d)
     (all_darts faces)) → is_on rings v ≡ is_least_in_ring faces marks v
-rings_told {faces} m {table} are rings1 rings v r1 r2 r3 o wholes w leasts e long far off is =
-    is ∙ rw (off, r3, w, e) (rings_are m are (rw (r1, o, are.run_long) at wholes) (rw (r2, are.run_long) at leasts) long
-    far v)
+rings_told {faces} m {table} are rings1 rings v r1 r2 r3 o wholes w leasts e long far off is = is ∙ rw (off, r3, w, e)
+    (rings_are m are (rw (r1, o, are.run_long) at wholes) (rw (r2, are.run_long) at leasts) long far v)
 
 -- One dart more in the tables of runs.
 
 pub least_more : {faces : Faces} {run least new : List ℕ} {none n : ℕ} → AreLeast faces run least none n
-    → run_at run n < length least → from_of faces n ≤ none
-    → new ≡ set least (run_at run n) (min (least_at least (run_at run n)) (from_of faces n))
-    → AreLeast faces run new none (n + 1)
+    → run_at run n < length least → from_of faces n ≤ none → new ≡ set least (run_at run n)
+    (min (least_at least (run_at run n)) (from_of faces n)) → AreLeast faces run new none (n + 1)
 least_more {faces} {run} {least} {new} {none} {n} a low less is = rw is (record { below = below; there = there })
   where
     here : least_at (set least (run_at run n) (min (least_at least (run_at run n)) (from_of faces n))) (run_at run n)

@@ -1,27 +1,26 @@
 -- The canonical text of a length is a word of it, and has no space.
 use Rattle.std.proofs.Common.{◌≡◌, ◌≤◌, not, ℕ, ℤ, pos, true, [], ◌∷◌, eqb, refl, ap, sym, ◌∙◌, arith, false, ◌++◌}
 use Rattle.std.proofs.Common.{codes, drop, get_or, ◌-◌, Bool, List, length, length-append, take, subst, append_assoc}
-use Rattle.std.proofs.{lemmas.Bool.and_from, lemmas.Bool.and_parts, lemmas.Bool.le-ltb, lemmas.Bool.Decides.nat_tests}
-use Rattle.std.proofs.{lemmas.Fmt.decimal_digit, lemmas.List.append-nil, lemmas.List.append_cancel_left}
-use Rattle.std.proofs.{lemmas.List.take_at}
+use Rattle.std.proofs.lemmas.Bool.{and_from, and_parts, le-ltb}
+use Rattle.std.proofs.lemmas.List.{append-nil, append_cancel_left, take_at}
 use Rattle.std.specs.{List.list_all, Prelude.unsigned_abs, Prelude.◌≤ℤ◌, Prelude.decimal}
 use Rattle.def_fit.specs.FitWords.{IsEdgeLength, keep_word, patches_word, spacing_word, AreFitWords, IsAimWord}
-use Rattle.def_fit.specs.FitWords.{aim_text, fit_head}
+use Rattle.def_fit.specs.{FitWords.aim_text, FitWords.fit_head, Aims.IsAim, Aims.IsFit, declared.fit.Aim.Aim}
 use Rattle.def_fit.specs.declared.fit.Aim.TheVariants.{Scale, Edge, Wishes}
-use Rattle.def_fit.specs.{Aims.IsAim, Aims.IsFit, declared.fit.Aim.Aim, declared.fit.Fit.Fit}
-use Rattle.def_fit.specs.{declared.fit.Spacing.Spacing, declared.fit.Spacing.TheVariants.Even}
-use Rattle.def_fit.specs.{declared.fit.Spacing.TheVariants.Wished}
-use Rattle.def_text.specs.{Canonical.micro_text, Decimal.is_far, Types.Word}
+use Rattle.def_fit.specs.declared.fit.Spacing.TheVariants.{Even, Wished}
 use Rattle.def_certtext.specs.Settings.{scale_text, AreInRange, AreWordsOf, floor_text, weight_text, IsFloor}
-use Rattle.def_certtext.specs.HeadLine.{head_line}
-use Rattle.def_flow.specs.{declared.net.Settings.Settings, declared.net.Weight.TheVariants.Plain}
-use Rattle.def_flow.specs.{declared.net.Weight.TheVariants.Length, declared.net.Weight.Weight}
+use Rattle.def_flow.specs.{declared.net.Settings.Settings, declared.net.Weight.Weight}
+use Rattle.def_flow.specs.declared.net.Weight.TheVariants.{Plain, Length}
 use Rattle.def_patches.specs.declared.Patches.TheVariants.{Traced, Merged, Conforming}
-use Rattle.def_patches.specs.{declared.Keep.Keep, declared.Keep.TheVariants.Nothing, declared.Keep.TheVariants.Lines}
-use Rattle.def_patches.specs.{declared.Patches.Patches}
+use Rattle.def_patches.specs.declared.Keep.TheVariants.{Nothing, Lines}
 use Rattle.qm_certtext.proofs.Cutting.{same_settings, asked_cut, one_word}
-use Rattle.{qm_certtext.specs.Cuts.is_bare, qm_certtext.specs.Cuts.asked_line, qm_dec.proofs.ReadBack.canonical_law}
-use Rattle.{qm_obj.proofs.LawText.is_plain, qm_obj.proofs.LawText.micro_word, qm_fit.specs.Cuts.IsFitCut}
+use Rattle.{std.proofs.lemmas.Bool.Decides.nat_tests, std.proofs.lemmas.Fmt.decimal_digit}
+use Rattle.{def_fit.specs.declared.fit.Fit.Fit, def_fit.specs.declared.fit.Spacing.Spacing}
+use Rattle.{def_text.specs.Canonical.micro_text, def_text.specs.Decimal.is_far, def_text.specs.Types.Word}
+use Rattle.{def_certtext.specs.HeadLine.head_line, def_patches.specs.declared.Keep.Keep}
+use Rattle.{def_patches.specs.declared.Patches.Patches, qm_certtext.specs.Cuts.is_bare}
+use Rattle.{qm_certtext.specs.Cuts.asked_line, qm_dec.proofs.ReadBack.canonical_law, qm_obj.proofs.LawText.is_plain}
+use Rattle.{qm_obj.proofs.LawText.micro_word, qm_fit.specs.Cuts.IsFitCut}
 
 -- The canonical text of a number has no space.
 byte_bare : (b : ℕ) → is_plain b ≡ true → not (eqb b 32) ≡ true
@@ -107,9 +106,8 @@ same_aim word _ _ one first two second = absurd (omega (arith, apart _ _ (sym fi
 abbrev pub least : (fit : Fit) → Settings
 least fit = record { p = 1; q = 1; floor = fit.floor; weight = fit.weight }
 
-pub least_words : (fit : Fit) (keep patches aim floor weight spacing : Word)
-    → AreFitWords keep patches aim floor weight spacing fit
-    → AreWordsOf (codes "1/1") floor weight (least fit) fit.auto
+pub least_words : (fit : Fit) (keep patches aim floor weight spacing : Word) → AreFitWords keep patches aim floor weight
+    spacing fit → AreWordsOf (codes "1/1") floor weight (least fit) fit.auto
 least_words fit keep patches aim floor weight spacing words = record {
   scaled = λ i. sym (decimal_digit 1 (omega arith)) i ++ 47 ∷ sym (decimal_digit 1 (omega arith)) i;
   bounded = words.bounded;
@@ -124,9 +122,8 @@ least_words fit keep patches aim floor weight spacing words = record {
 }
 
 -- Six words ask for one fit.
-pub same_fit : (keep patches aim floor weight spacing : Word) (one two : Fit)
-    → AreFitWords keep patches aim floor weight spacing one
-    → AreFitWords keep patches aim floor weight spacing two → one ≡ two
+pub same_fit : (keep patches aim floor weight spacing : Word) (one two : Fit) → AreFitWords keep patches aim floor
+    weight spacing one → AreFitWords keep patches aim floor weight spacing two → one ≡ two
 same_fit keep patches aim floor weight spacing one two first second =
     let keeps : one.keep ≡ two.keep = same_keep _ _ (sym first.kept ∙ second.kept) in
     let cuts : one.patches ≡ two.patches = same_patches _ _ (sym first.cut ∙ second.cut) in
@@ -188,14 +185,11 @@ regrouped front (part ∷ next ∷ parts) =
 
 -- The head line is cut into the words of its fit.
 head_cut : (fit : Fit) → IsFit fit → IsFitCut (fit_head fit) (keep_word fit.keep) (patches_word fit.patches)
-    (aim_text fit.aim) (floor_text fit.floor fit.auto)
-    (weight_text fit.weight) (spacing_word fit.spacing)
+    (aim_text fit.aim) (floor_text fit.floor fit.auto) (weight_text fit.weight) (spacing_word fit.spacing)
 head_cut fit is = record {
-  written =
-      regrouped (codes "#quadq 1 fit keep ")
-      (keep_word fit.keep ∷ codes " patches " ∷ patches_word fit.patches ∷ codes " aim " ∷ aim_text fit.aim
-      ∷ codes " floor " ∷ floor_text fit.floor fit.auto
-      ∷ codes " weight " ∷ weight_text fit.weight ∷ codes " spacing " ∷ spacing_word fit.spacing ∷ []);
+  written = regrouped (codes "#quadq 1 fit keep ") (keep_word fit.keep ∷ codes " patches " ∷ patches_word fit.patches
+      ∷ codes " aim " ∷ aim_text fit.aim ∷ codes " floor " ∷ floor_text fit.floor fit.auto ∷ codes " weight "
+      ∷ weight_text fit.weight ∷ codes " spacing " ∷ spacing_word fit.spacing ∷ []);
   keep_bare = keep_bare fit.keep;
   patches_bare = patches_bare fit.patches;
   aim_bare = aim_bare fit.aim is.aim;
@@ -272,19 +266,16 @@ module _ (line r0 : Word) (is : line ≡ fit_front ++ r0) where
           no_weight none k p a f w s cut = none w _ cut.weight_bare (at_weight k p a f w s cut).1
 
           pub cut_whole : (weight spacing : Word) → is_bare weight ≡ true
-              → r4 ≡ weight ++ (codes " spacing " ++ spacing)
-              → IsFitCut line keep patches aim floor weight spacing
+              → r4 ≡ weight ++ (codes " spacing " ++ spacing) → IsFitCut line keep patches aim floor weight spacing
           cut_whole weight spacing bare5 split5 = record {
-            written =
-                is ∙ (λ i. fit_front ++ split1 i) ∙ (λ i. fit_front ++ (keep ++ (codes " patches " ++ split2 i)))
+            written = is ∙ (λ i. fit_front ++ split1 i) ∙ (λ i. fit_front ++ (keep ++ (codes " patches " ++ split2 i)))
                 ∙ (λ i. fit_front ++ (keep ++ (codes " patches " ++ (patches ++ (codes " aim " ++ split3 i)))))
-                ∙ (λ i. fit_front ++ (keep
-                ++ (codes " patches " ++ (patches
-                ++ (codes " aim " ++ (aim ++ (codes " floor " ++ split4 i)))))))
-                ∙ (λ i. fit_front ++ (keep
-                ++ (codes " patches " ++ (patches
-                ++ (codes " aim " ++ (aim
-                ++ (codes " floor " ++ (floor ++ (codes " weight " ++ split5 i)))))))));
+                ∙ (λ i. fit_front ++
+                (keep ++ (codes " patches " ++ (patches ++ (codes " aim " ++ (aim ++ (codes " floor " ++ split4 i)))))))
+                ∙ (λ i. fit_front ++
+                (keep ++ (codes " patches " ++
+                (patches ++ (codes " aim " ++
+                (aim ++ (codes " floor " ++ (floor ++ (codes " weight " ++ split5 i)))))))));
             keep_bare = bare1;
             patches_bare = bare2;
             aim_bare = bare3;
@@ -358,10 +349,9 @@ least_cut old head long floor auto weight is told =
     is ∙ least_behind floor auto weight in
     let size : long - 1 - 25 ≡ length (least_text floor auto weight) =
     omega (arith, ap length same, length-append (least_text floor auto weight) (10 ∷ [])) in
-    ap (λ (t : Word). old ++ t) (ap (λ (t : Word). take (long - 1 - 25) (drop 25 t)) same
-    ∙ take_at text (10 ∷ []) (long - 1 - 25) (sym size))
-    ∙ ap (λ (t : Word). old ++ t) (regrouped (codes " floor ") (floor_text floor auto ∷ codes " weight "
-    ∷ weight_text weight ∷ []))
+    ap (λ (t : Word). old ++ t) (ap (λ (t : Word). take (long - 1 - 25) (drop 25 t)) same ∙ take_at text (10 ∷ [])
+    (long - 1 - 25) (sym size)) ∙ ap (λ (t : Word). old ++ t)
+    (regrouped (codes " floor ") (floor_text floor auto ∷ codes " weight " ∷ weight_text weight ∷ []))
     ∙ sym (regrouped old (codes " floor " ∷ floor_text floor auto ∷ codes " weight " ∷ weight_text weight ∷ []))
 
 -- A line is the head line of one fit.

@@ -1,9 +1,8 @@
 -- What waits names vertices alone, also when one is taken and when one more waits.
 use Rattle.std.proofs.Common.{◌≡◌, ℕ, List, ◌∷◌, Option, Some, None, Result, Ok, Err, IsPermutation, IfNone, IfSome}
 use Rattle.std.proofs.lemmas.List.Elements.{All-cons, All-same, All-tail}
-use Rattle.std.proofs.lemmas.List.Sorted.{All-permutation}
 use Rattle.std.specs.{Prelude.OnOk, Prelude.OnErr, List.All, declared.cmp.Reverse.Reverse}
-use Rattle.qm_fraction.specs.Known.{IsKey}
+use Rattle.{std.proofs.lemmas.List.Sorted.All-permutation, qm_fraction.specs.Known.IsKey}
 
 module _ (Q : Type 0) (n : ℕ) (old new : List (Reverse ℕ × ℕ)) (keys : All (IsKey n) old) where
   pub keys_left : (popped : Option (Reverse ℕ × ℕ)) → IfSome popped (λ x. IsPermutation old (x ∷ new))

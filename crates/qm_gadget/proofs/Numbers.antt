@@ -90,10 +90,6 @@ rim_step there waits os i l =
           (rim_first there waits o (slice_index_or os (i + 1) false) (drop (i + 1 + 1) os))
     ]
 
--- One vertex at the rim has at most 4 edges here.
-pub turn_low : (there waits o last : Bool) → length (turn_marks there waits o last) ≤ 4
-turn_low there waits o last = grind (arith)
-
 -- Reading an increasing list of edges unit by unit.
 
 -- In a list that rises from a bound on, nothing is below the bound.
@@ -141,9 +137,8 @@ marks_past (suc w) n (suc t) k high (x ∷ m) e increasing =
 pub state_read : (copies_at : ℕ → ℕ) (left : End) (t k high : ℕ) (m : List ℕ) → copies_at left.node ≤ t
     → IsIncreasing k high m → state_told copies_at (marks_from k t m) left
     ≡ beq left.plus (first_below m (k + copies_at left.node))
-state_read copies_at left t k high m le increasing =
-    ap (λ b. cond left.plus b (not b)) (marks_past (copies_at left.node) (t - copies_at left.node) t k high m
-    (omega arith) increasing).1 ∙ grind (arith)
+state_read copies_at left t k high m le increasing = ap (λ b. cond left.plus b (not b))
+    (marks_past (copies_at left.node) (t - copies_at left.node) t k high m (omega arith) increasing).1 ∙ grind (arith)
 
 -- The states from a unit on: its own, and those from the next on.
 pub states_read : (copies_at : ℕ → ℕ) (us : List ArcUnit) (i : ℕ) (u : ArcUnit) (t n k high : ℕ) (m : List ℕ)

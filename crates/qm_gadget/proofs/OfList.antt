@@ -3,22 +3,21 @@ use Rattle.std.proofs.Common.{rules, ◌≡◌, ℕ, zero, suc, ◌+◌, ◌<◌
 use Rattle.std.proofs.Common.{◌∙◌, ap, arith, ◌-◌, ◌*◌, ◌^◌, ◌≤◌, inl, inr, Bool, true, false}
 use Rattle.std.proofs.{lemmas.List.get_or_default, lemmas.List.get_or_past, Math.Nat.mul-le-mul, lemmas.Bool.cases_lt}
 use Rattle.std.proofs.{lemmas.List.Elements.All-from_recursion, lemmas.List.Elements.recursion_from_All}
-use Rattle.std.specs.Prelude.{unsigned_abs, slice_index}
 use Rattle.def_flow.specs.Network.{arc_at, EndsBelow, Network, IsWithinBounds, tangle_number}
+use Rattle.def_flow.specs.{MatchingGraph.lone_vertex, declared.net.Arc.Arc, declared.units.ArcUnit.ArcUnit, Gadget.caps}
 use Rattle.def_flow.specs.Units.{arcwise, low, cap, units, active, units_over, states_over}
 use Rattle.def_flow.specs.MatchingGraph.{graph_by, graph_of_units, matching_graph, first_fresh, unit_size, rim}
-use Rattle.def_flow.specs.MatchingGraph.{lone_vertex}
-use Rattle.def_flow.specs.{declared.net.Arc.Arc, Admissible.IsAdmissible, Admissible.entries, Admissible.AreNetLengths}
-use Rattle.def_flow.specs.{declared.units.ArcUnit.ArcUnit, Gadget.caps, Gadget.lows}
+use Rattle.def_flow.specs.Admissible.{IsAdmissible, entries, AreNetLengths}
 use Rattle.def_matching.specs.Matching.{WeightedGraph, IsCheap, IsSmallGraph, edge_at}
-use Rattle.qm_gadget.specs.Ready.{graph_by_lows, IsReady, IsPlan, own_states as states_of_caps, marks_over}
 use Rattle.qm_gadget.specs.{Layout.copies_in, declared.plan.Plan.Plan, Marked.rim_by}
-use Rattle.gadget_laws.specs.{Marks.places, Marks.states_marks, Marks.rim_marks, Marks.rim_states, Box.ups}
-use Rattle.gadget_laws.specs.{Box.matching_told}
-use Rattle.def_math.specs.Counts.{count, count_below}
-use Rattle.gadget_laws.proofs.{Arcs.active_past, Edges.size_low, Box.arcwise_length, Box.costs, Box.units_at}
-use Rattle.gadget_laws.proofs.{Box.graph_law, Size.size_law}
+use Rattle.gadget_laws.specs.Marks.{places, states_marks, rim_marks, rim_states}
+use Rattle.gadget_laws.proofs.Box.{arcwise_length, costs, units_at, graph_law}
 use Rattle.qm_gadget.proofs.{Fans.own_states, NodeCounts.same_everywhere, NodeCounts.active_low, Numbers.rim_is}
+use Rattle.{std.specs.Prelude.unsigned_abs, std.specs.Prelude.slice_index, def_flow.specs.Gadget.lows}
+use Rattle.{gadget_laws.specs.Box.ups, gadget_laws.specs.Box.matching_told, def_math.specs.Counts.count}
+use Rattle.{def_math.specs.Counts.count_below, gadget_laws.proofs.Arcs.active_past, gadget_laws.proofs.Edges.size_low}
+use Rattle.gadget_laws.proofs.Size.{size_law}
+use Rattle.qm_gadget.specs.Ready.{graph_by_lows, IsReady, IsPlan, own_states as states_of_caps, marks_over}
 
 -- At an arc of the list.
 pub arcwise_at : (f : Arc → ℕ → ℕ) (arcs : List Arc) (xs : List ℕ) (k : ℕ) → length xs ≡ length arcs → k < length arcs

@@ -1,19 +1,18 @@
 -- What a gadget's matchings and lists tell of each other.
-use Rattle.std.proofs.Common.{rules}
-use Rattle.std.proofs.Common.{◌≡◌, ℕ, ◌%◌, ◌^◌, ◌≤◌, ◌==◌, Bool, List, length, pos, ◌-ℤ◌, ◌≤ℤ◌, sym, ◌∙◌, ap, arith}
+use Rattle.std.proofs.Common.{rules, ◌≡◌, ℕ, ◌%◌, ◌^◌, ◌≤◌, ◌==◌, Bool, List, length, pos, ◌-ℤ◌, ◌≤ℤ◌, sym, ◌∙◌, ap}
 use Rattle.def_flow.specs.Units.{units, states_at, active, rim_active, units_over, states_over}
-use Rattle.def_flow.specs.{Network.Network, Network.IsWithinBounds, Admissible.IsAdmissible, Admissible.deviation}
-use Rattle.def_flow.specs.{Admissible.entries, MatchingGraph.graph_by, MatchingGraph.matching_graph}
-use Rattle.def_flow.specs.{declared.units.ArcUnit.ArcUnit, Gadget.IsGadgetOf, Gadget.IsInBox, Gadget.lows, Gadget.caps}
-use Rattle.def_flow.specs.{declared.gadget.Gadget.Gadget}
+use Rattle.def_flow.specs.{Network.Network, Network.IsWithinBounds, MatchingGraph.graph_by}
+use Rattle.def_flow.specs.{MatchingGraph.matching_graph, declared.units.ArcUnit.ArcUnit, declared.gadget.Gadget.Gadget}
+use Rattle.def_flow.specs.Admissible.{IsAdmissible, deviation, entries}
+use Rattle.def_flow.specs.Gadget.{IsGadgetOf, IsInBox, lows, caps}
 use Rattle.def_matching.specs.Matching.{WeightedGraph, graph, matching_cost, IsPerfect}
-use Rattle.gadget_laws.specs.{Box.ups, Box.matching_told, Marks.places, Told.marks_from, Told.states_told}
-use Rattle.gadget_laws.specs.{Told.lengths_told}
+use Rattle.gadget_laws.specs.Told.{marks_from, states_told, lengths_told}
 use Rattle.gadget_laws.proofs.{Whole.marks_length, Arcs.in_box, Arcs.lengths_law, Box.matching_law, Size.size_law}
+use Rattle.qm_gadget.proofs.{Fans.states_long, Fans.own_states, Numbers.widths_low, Numbers.lengths_is}
+use Rattle.qm_gadget.proofs.OfList.{list_ready, graph_over, ups_length, marks_over_is}
+use Rattle.{std.proofs.Common.arith, gadget_laws.specs.Box.ups, gadget_laws.specs.Box.matching_told}
+use Rattle.{gadget_laws.specs.Marks.places, qm_gadget.specs.Read.lengths_read, qm_gadget.specs.Read.widths_over}
 use Rattle.qm_gadget.specs.{Ready.IsReady, Ready.marks_over, Ready.own_states as states_of_caps, Read.lengths_by}
-use Rattle.qm_gadget.specs.{Read.lengths_read, Read.widths_over}
-use Rattle.qm_gadget.proofs.{Fans.states_long, Fans.own_states, OfList.list_ready, OfList.graph_over, OfList.ups_length}
-use Rattle.qm_gadget.proofs.{OfList.marks_over_is, Numbers.widths_low, Numbers.lengths_is}
 
 module _ {net : Network} {g : Gadget} (bounds : IsWithinBounds net) (of : IsGadgetOf net g) where
   -- The lows and caps of a gadget are ready for a plan.
@@ -66,9 +65,8 @@ module _ {net : Network} {g : Gadget} (bounds : IsWithinBounds net) (of : IsGadg
       let js = ups g.step (lows net g.step of.x) ys in
       let told : m ≡ matching_told net g.step of.x js =
       (rw (of.lows, of.caps) at is) ∙ marks_over_is net g.step of.x js in
-      rw (of.graphs, told, of.lows)
-      (matching_law net g.step of.x js ys bounds of.steps.0 of.lengths.count of.admissible admissible
-      (in_box g.step net.arcs of.x ys of.steps.0 of.lengths.count (rw (← of.lows, ← of.caps) inside)))
+      rw (of.graphs, told, of.lows) (matching_law net g.step of.x js ys bounds of.steps.0 of.lengths.count of.admissible
+      admissible (in_box g.step net.arcs of.x ys of.steps.0 of.lengths.count (rw (← of.lows, ← of.caps) inside)))
 
 -- The list that a perfect matching of a gadget's graph tells.
 pub record AreTold (net : Network) (g : Gadget) (m ys : List ℕ) : Type 0 where
@@ -86,10 +84,9 @@ gadget_lengths {net} {g} bounds of m perfect edges long ys is =
     let many : edges ≡ length (matching_graph net g.step of.x).edges =
     long ∙ ap (λ (h : WeightedGraph). length h.edges) of.graphs in
     let told : ys ≡ lengths_told net g.step of.x m = (rw (of.lows, of.caps, many) at is)
-    ∙ (ap (λ os. lengths_by g.step (lows net g.step of.x) (caps net g.step of.x)
-    (states_told (λ v. active v us os) us (marks_from 0 (length (matching_graph net g.step of.x).edges) m)))
-    (own_states net g.step of.x)
-    ∙ lengths_is g.step net.arcs of.x (states_told (λ v. active v us (states_at net g.step of.x)) us
+    ∙ (ap (λ os. lengths_by g.step (lows net g.step of.x) (caps net g.step of.x) (states_told (λ v. active v us os) us
+    (marks_from 0 (length (matching_graph net g.step of.x).edges) m))) (own_states net g.step of.x) ∙ lengths_is g.step
+    net.arcs of.x (states_told (λ v. active v us (states_at net g.step of.x)) us
     (marks_from 0 (length (matching_graph net g.step of.x).edges) m))) in
     let law = lengths_law net g.step of.x m bounds of.steps.0 of.lengths.count of.admissible
     (rw (← of.graphs) perfect) in

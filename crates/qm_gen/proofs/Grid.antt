@@ -41,16 +41,14 @@ fits_in n x y low flat =
     (omega arith))
 
 cell_fits : (n column row : ℕ) → column < 3 * n → row < 8 → list_all (fits n) (cell n column row) ≡ true
-cell_fits n column row low flat =
-    and_from _ _ (fits_in n column row (omega arith) (omega arith))
+cell_fits n column row low flat = and_from _ _ (fits_in n column row (omega arith) (omega arith))
     (and_from _ _ (fits_in n (column + 1) row (omega arith) (omega arith))
     (and_from _ _ (fits_in n (column + 1) (row + 1) (omega arith) (omega arith))
     (and_from _ _ (fits_in n column (row + 1) (omega arith) (omega arith)) refl)))
 
-row_fits : (n row a k : ℕ) → a + k ≤ 3 * n → row < 8
-    → list_all (list_all (fits n))
-    (map (λ column. cell n column row) (filter (λ column. nat_lt row (column_height n column))
-    (range_with_len a k))) ≡ true
+row_fits : (n row a k : ℕ) → a + k ≤ 3 * n → row < 8 → list_all (list_all (fits n))
+    (map (λ column. cell n column row) (filter (λ column. nat_lt row (column_height n column)) (range_with_len a k)))
+    ≡ true
 row_fits n row a zero low flat = refl
 row_fits n row a (suc k) low flat =
     by_test (nat_lt row (column_height n a)) (row_fits n row (a + 1) k (omega arith) flat)
@@ -89,16 +87,15 @@ filter_few p (x ∷ xs) = by_test (p x) (filter_few p xs)
 -- The points that cells use are not more.
 pub few_used : (n : ℕ) → n ≤ 10000 → (soup : FaceSet) → (points : Positions) (faces : Faces) → points ≡ grid_points n
     → soup ≡ face_set points faces → length soup.pos ≤ 2 ^ 21
-few_used n few soup points faces is used =
-    omega (
-      arith,
-      ap (λ (s : FaceSet). length s.pos) used,
-      length-map (used_to faces (length points)) (position_of points),
-      filter_few (is_used faces) (numbers_to (length points)),
-      length-numbers_to (length points),
-      ap length is,
-      few_points n few,
-    )
+few_used n few soup points faces is used = omega (
+  arith,
+  ap (λ (s : FaceSet). length s.pos) used,
+  length-map (used_to faces (length points)) (position_of points),
+  filter_few (is_used faces) (numbers_to (length points)),
+  length-numbers_to (length points),
+  ap length is,
+  few_points n few,
+)
 
 -- How many cells there are.
 row_few : (n row : ℕ) → length (row_cells n row) ≤ 3 * n
@@ -123,16 +120,14 @@ rows_few n y (suc k) =
     )
 
 pub few_faces : (n : ℕ) → n ≤ 10000 → (soup : FaceSet) → (points : Positions) (faces : Faces) → faces ≡ cells n
-    → soup ≡ face_set points faces
-    → length soup.faces ≤ 2 ^ 20
-few_faces n few soup points faces is used =
-    omega (
-      arith,
-      ap (λ (s : FaceSet). length s.faces) used,
-      length-map faces (λ corners. map (line_vertex faces) corners),
-      ap length is,
-      rows_few n 0 8,
-    )
+    → soup ≡ face_set points faces → length soup.faces ≤ 2 ^ 20
+few_faces n few soup points faces is used = omega (
+  arith,
+  ap (λ (s : FaceSet). length s.faces) used,
+  length-map faces (λ corners. map (line_vertex faces) corners),
+  ap length is,
+  rows_few n 0 8,
+)
 
 -- A soup whose vertices are numbered anew is one.
 pub with_numbers : (pos : Positions) (faces : Faces) (names : List ℕ)

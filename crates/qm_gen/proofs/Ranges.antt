@@ -55,9 +55,8 @@ state_more n k old new is next =
     next ∙ ap (λ (s : ℕ). (FACTOR * s + ADDEND) % STATES) is ∙ ap (state_after n) (sym one)
 
 pub height_more : (n k old new : ℕ) (heights more : List ℕ) → heights ≡ map (block_height n) (range_with_len 0 k)
-    → old ≡ state_after n k
-    → new ≡ (FACTOR * old + ADDEND) % STATES → more ≡ heights ++ (4 + (new / LOW_STATES) % HEIGHTS) ∷ []
-    → more ≡ map (block_height n) (range_with_len 0 (k + 1))
+    → old ≡ state_after n k → new ≡ (FACTOR * old + ADDEND) % STATES
+    → more ≡ heights ++ (4 + (new / LOW_STATES) % HEIGHTS) ∷ [] → more ≡ map (block_height n) (range_with_len 0 (k + 1))
 height_more n k old new heights more all is next grown =
     let one : k + 1 ≡ suc k = omega arith in
     let last : new ≡ state_after n (suc k) = state_more n k old new is next ∙ ap (state_after n) one in

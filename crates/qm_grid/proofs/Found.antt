@@ -102,11 +102,10 @@ module _ {faces : Faces} {cut : List Bool} (cutting : IsCutting faces cut) where
   found_skip {n} so on = search rules
 
   module _ {f d : ℕ} (p : Rectangle) (low : f < length faces) (head : IsHead faces cut f d)
-      (grown : IsGrown (half_edges faces) (is_on cut) d p.w p.h)
-      (cells : p.cells ≡ grid_list (half_edges faces) d p.w p.h) {seen : List Bool} (new : List Bool)
-      {found : List Rectangle} (so : AreFoundSoFar faces cut f seen found) (unseen : get_or seen f false ≡ false)
-      (long : length new ≡ length seen) (put : (g : ℕ) → g < length seen → get_or new g false
-      ≡ (get_or seen g false || lies_in p.cells g)) where
+      (grown : IsGrown (half_edges faces) (is_on cut) d p.w p.h) (cells : p.cells ≡ grid_list (half_edges faces) d p.w
+      p.h) {seen : List Bool} (new : List Bool) {found : List Rectangle} (so : AreFoundSoFar faces cut f seen found)
+      (unseen : get_or seen f false ≡ false) (long : length new ≡ length seen) (put : (g : ℕ) → g < length seen → get_or
+      new g false ≡ (get_or seen g false || lies_in p.cells g)) where
     patch : IsPatch mesh (is_on cut) p.w p.h (cell_of p)
     patch = laid_patch cutting head.corner grown head p.cells cells
 
@@ -210,10 +209,9 @@ row_at mesh s d e i at is = let n : suc i ≡ i + 1 = omega arith in is ∙ (ap 
 
 pub row_listed : (mesh : HalfEdges) (s i : ℕ) (old : List ℕ) {d : ℕ} {now new : List ℕ} → d ≡ easts mesh s i
     → now ≡ old ++ row_list mesh s i → new ≡ now ++ d ∷ [] → new ≡ old ++ row_list mesh s (i + 1)
-row_listed mesh s i old {d} at listed put =
-    put ∙ (ap (λ xs. xs ++ d ∷ []) listed ∙ (append_assoc old (row_list mesh s i) (d ∷ [])
-    ∙ ap (λ xs. old ++ xs) (ap (λ x. row_list mesh s i ++ x ∷ []) at
-    ∙ sym (map-range_with_len_more (easts mesh s) 0 i i (omega arith)))))
+row_listed mesh s i old {d} at listed put = put ∙ (ap (λ xs. xs ++ d ∷ []) listed
+    ∙ (append_assoc old (row_list mesh s i) (d ∷ []) ∙ ap (λ xs. old ++ xs) (ap (λ x. row_list mesh s i ++ x ∷ [])
+    at ∙ sym (map-range_with_len_more (easts mesh s) 0 i i (omega arith)))))
 
 module _ (mesh : HalfEdges) (laws : IsQuadManifold mesh) (cut : Cut) (full : IsCut mesh cut) where
   pub row_inside : (s d i : ℕ) → d ≡ easts mesh s i → ((k : ℕ) → k < i → cut (mesh.next (easts mesh s k)) ≡ false)
@@ -256,9 +254,8 @@ module _ {mesh : HalfEdges} (laws : IsQuadManifold mesh) {cut : Cut} (full : IsC
       → new ≡ now ++ row_list mesh d v → (w : ℕ) → IsRow mesh cut s w → new ≡ grid_list mesh s w (h + 1)
   grid_listed listed put w first =
       let n : suc h ≡ h + 1 = omega arith in
-      put ∙ (ap (λ xs. xs ++ row_list mesh d v) (listed w first)
-      ∙ (ap (λ x. grid_list mesh s w h ++ row_list mesh x v) at
-      ∙ (ap (λ x. grid_list mesh s w h ++ row_list mesh (norths mesh s h) x)
+      put ∙ (ap (λ xs. xs ++ row_list mesh d v) (listed w first) ∙ (ap (λ x. grid_list mesh s w h ++ row_list mesh x v)
+      at ∙ (ap (λ x. grid_list mesh s w h ++ row_list mesh (norths mesh s h) x)
       (sym (same_width mesh laws cut full at row before w first)) ∙ ap (grid_list mesh s w) n)))
 
   -- The last one.

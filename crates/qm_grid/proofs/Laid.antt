@@ -46,10 +46,9 @@ grid_at mesh d w (suc h) i j li lj = elim (cases_lt j h) [
     last e =
         let place : j * w + i ≡ length (grid_list mesh d w h) + i = ap (λ x. x * w + i) e
         ∙ ap (λ x. x + i) (sym (grid_long mesh d w h)) in
-        ap (λ x. get_or (grid_list mesh d w (suc h)) x 0) place
-        ∙ (get_or-append-add (grid_list mesh d w h) (row_list mesh (norths mesh d h) w) i 0
-        ∙ (get_or-map-range_with_len (easts mesh (norths mesh d h)) 0 w i i 0 li (omega arith)
-        ∙ ap (λ x. easts mesh (norths mesh d x) i) (sym e)))
+        ap (λ x. get_or (grid_list mesh d w (suc h)) x 0) place ∙ (get_or-append-add (grid_list mesh d w h)
+        (row_list mesh (norths mesh d h) w) i 0 ∙ (get_or-map-range_with_len (easts mesh (norths mesh d h)) 0 w i i 0 li
+        (omega arith) ∙ ap (λ x. easts mesh (norths mesh d x) i) (sym e)))
 
 -- Cells and faces.
 pub lies_at : (cells : List ℕ) (f : ℕ) → lies_in cells f ≡ true → (k : ℕ) × (k < length cells)
@@ -103,8 +102,7 @@ module _ {faces : Faces} {cut : List Bool} (cutting : IsCutting faces cut) {d w 
       let (n, is) = same_face faces cutting.laws (grown mesh d (k % w) (k / w)) (4 * f)
       (ap (λ x. x / 4) (sym here) ∙ (e ∙ omega arith)) in
       rw is (step_spin cutting.laws (is_on cut) d (grown mesh d (k % w) (k / w)) n
-      (linked_cell cutting.laws cutting.full whole (k % w) (k / w)
-      (omega (arith, g.wide)) row))
+      (linked_cell cutting.laws cutting.full whole (k % w) (k / w) (omega (arith, g.wide)) row))
 
   spin_face : (k x : ℕ) → spin mesh k x / 4 ≡ x / 4
   spin_face zero x = refl

@@ -1,18 +1,17 @@
 -- The head line of `refine`.
-use Rattle.std.specs.{Prelude.MatchOption, Prelude.decimal, Prelude.unsigned_abs, Prelude.◌≤ℤ◌, Str.bytes_eq}
+use Rattle.std.specs.Prelude.{MatchOption, decimal, unsigned_abs, ◌≤ℤ◌}
 use Rattle.std.proofs.Common.{◌≡◌, ◌≤◌, ℕ, Option, Some, None, ◌++◌, codes, ap, sym, ◌∙◌, arith, ℤ, pos, true, false}
 use Rattle.std.proofs.Common.{length, take, inl, inr, refl, ap₂, subst, append_assoc, ◌↔◌, []}
-use Rattle.std.proofs.{lemmas.Fmt.decimal_injective, lemmas.List.append_cancel_left, lemmas.Bool.cases_lt}
-use Rattle.std.proofs.{lemmas.Bool.lt-ltb, lemmas.Bool.true≢false, lemmas.Option.none-some, lemmas.Option.same_Some}
-use Rattle.std.proofs.{lemmas.Slice.Eq.bytes_eq-Decides}
+use Rattle.std.proofs.{lemmas.Fmt.decimal_injective, lemmas.List.append_cancel_left, lemmas.Option.none-some}
+use Rattle.std.proofs.{lemmas.Option.same_Some, lemmas.Slice.Eq.bytes_eq-Decides}
+use Rattle.std.proofs.lemmas.Bool.{cases_lt, lt-ltb, true≢false}
 use Rattle.def_run.specs.declared.command.Command.TheVariants.{Refine, Remesh, Crease, Size, Coarse, Fit}
-use Rattle.def_run.specs.{MarkLines.IsRefineHead, MarkLines.IsSizeHead, MarkLines.IsMarkLine, Size.size_head}
-use Rattle.def_run.specs.{declared.command.Command.Command}
-use Rattle.def_text.specs.{Types.Word, Canonical.micro_text, Decimal.is_decimal, Decimal.is_far, Decimal.rounded}
-use Rattle.def_text.specs.{Decimal.IsValue}
+use Rattle.def_run.specs.MarkLines.{IsRefineHead, IsSizeHead, IsMarkLine}
+use Rattle.def_text.specs.Decimal.{is_decimal, is_far, rounded, IsValue}
 use Rattle.qm_certtext.proofs.{Cutting.not_stripped, Cutting.one_word, Texts.same_asked, Texts.same_head}
-use Rattle.qm_fit.proofs.Heads.{micro_bare, one_fit}
-use Rattle.{qm_certtext.specs.Cuts.is_bare, qm_dec.proofs.ReadBack.canonical_law}
+use Rattle.{std.specs.Str.bytes_eq, def_run.specs.Size.size_head, def_run.specs.declared.command.Command.Command}
+use Rattle.{def_text.specs.Types.Word, def_text.specs.Canonical.micro_text, qm_fit.proofs.Heads.micro_bare}
+use Rattle.{qm_fit.proofs.Heads.one_fit, qm_certtext.specs.Cuts.is_bare, qm_dec.proofs.ReadBack.canonical_law}
 use Rattle.{def_fit.specs.declared.fit.Fit.Fit as AnyFit, def_flow.specs.declared.net.Settings.Settings}
 
 abbrev pub refine_front : Word
@@ -98,9 +97,8 @@ module _ {line : Word} (rest : Word) (is : line ≡ size_front ++ rest) where
         → (word ≡ micro_text edge) × (pos 1 ≤ℤ edge) × (unsigned_abs edge ≤ 999_999_999_999_999)
         → (more ≡ decimal floor) × (1 ≤ floor) × (floor ≤ 3) → IsSizeHead line edge floor
     has_size edge floor told least = record {
-      written =
-          is ∙ (ap (λ (w : Word). size_front ++ w) (split ∙ ap₂ (λ (w m : Word). w ++ (floor_mark ++ m)) told.0 least.0)
-          ∙ sym (nested edge floor));
+      written = is ∙ (ap (λ (w : Word). size_front ++ w) (split ∙ ap₂ (λ (w m : Word). w ++ (floor_mark ++ m)) told.0
+          least.0) ∙ sym (nested edge floor));
       low = told.1;
       near = told.2;
       floor_low = least.1;
@@ -166,9 +164,8 @@ one_line line (Fit f) b one two = absurd (differ line (Fit f) b one two refl)
 one_line line _ b one two = absurd one
 
 -- So what an exact reader gives is the command of the line.
-pub read_only : (line : Word) (o : Option Command)
-    → MatchOption o ((command : Command) → IsMarkLine line command → ⊥) (IsMarkLine line)
-    → (command : Command) → (o ≡ Some command) ↔ IsMarkLine line command
+pub read_only : (line : Word) (o : Option Command) → MatchOption o ((command : Command) → IsMarkLine line command → ⊥)
+    (IsMarkLine line) → (command : Command) → (o ≡ Some command) ↔ IsMarkLine line command
 read_only line None none command = (λ is. absurd (none-some command is), λ mark. absurd (none command mark))
 read_only line (Some read) mark command = (
   λ is. subst (IsMarkLine line) (same_Some read command is) mark,

@@ -2,30 +2,21 @@
 use Rattle.std.proofs.Common.{◌≡◌, ◌≢◌, ◌⊎◌, ℕ, ◌+◌, ◌*◌, ◌<◌, ◌≤◌, ◌^◌, Bool, true, false, cond, ltb, List, length}
 use Rattle.std.proofs.Common.{◌∙◌, refl, inl, inr, arith, get_or, set, ℤ, pos, neg_ℤ, ◌+ℤ◌, ◌-ℤ◌, ◌*ℤ◌, ◌≤ℤ◌, int_lt}
 use Rattle.std.proofs.Common.{unsigned_abs, sym, subst, ap}
-use Rattle.std.proofs.{lemmas.Bool.cases_eq, lemmas.Int.ints, lemmas.List.get_or-set_same, lemmas.List.get_or-set_other}
-use Rattle.std.proofs.{lemmas.List.length-set}
-use Rattle.list_laws.proofs.Filters.{last_or}
+use Rattle.std.proofs.lemmas.List.{get_or-set_same, get_or-set_other, length-set}
 use Rattle.def_matching.specs.Matching.{WeightedGraph, EdgeNumber, Vertex, edge_at, IsGraph}
-use Rattle.def_matching.specs.declared.weighted.WEdge.{WEdge}
-use Rattle.qm_initial.specs.{declared.initial.TheConstants.MAX_WISH, Lowered.with_room, Lowered.with_room_on}
-use Rattle.qm_initial.specs.{Lowered.AreFeasible, Lowered.AreWished}
+use Rattle.qm_initial.specs.Lowered.{with_room, with_room_on, AreFeasible, AreWished}
+use Rattle.{std.proofs.lemmas.Bool.cases_eq, std.proofs.lemmas.Int.ints, list_laws.proofs.Filters.last_or}
+use Rattle.{def_matching.specs.declared.weighted.WEdge.WEdge, qm_initial.specs.declared.initial.TheConstants.MAX_WISH}
 
 -- The two ends of an edge, in one order or the other.
 abbrev pub AreEnds : (g : WeightedGraph) (k : EdgeNumber) (a b : Vertex) → Type 0
 AreEnds g k a b = ((a ≡ (edge_at g k).u) × (b ≡ (edge_at g k).v)) ⊎ ((a ≡ (edge_at g k).v) × (b ≡ (edge_at g k).u))
 
-module _ (g : WeightedGraph) (lawful : IsGraph g)
-    (cheap : (e : EdgeNumber) → e < length g.edges → unsigned_abs (edge_at g e).cost ≤ 2 ^ 57)
-    (wish y : List ℤ) (k : EdgeNumber) (low : k < length g.edges) (so : AreWished g wish y k)
-    (long : length wish ≡ g.n) (a b : Vertex) (ends : AreEnds g k a b) where
+module _ (g : WeightedGraph) (lawful : IsGraph g) (cheap : (e : EdgeNumber) → e < length g.edges → unsigned_abs
+    (edge_at g e).cost ≤ 2 ^ 57) (wish y : List ℤ) (k : EdgeNumber) (low : k < length g.edges)
+    (so : AreWished g wish y k) (long : length wish ≡ g.n) (a b : Vertex) (ends : AreEnds g k a b) where
   abbrev most : ℤ
   most = pos 2 *ℤ (edge_at g k).cost
-
-  a_low : a < length y
-  a_low = elim ends [
-    | inl e ↦ omega (arith, e.0, lawful.left k low, so.long, long)
-    | inr e ↦ omega (arith, e.0, lawful.right k low, so.long, long)
-  ]
 
   b_low : b < length y
   b_low = elim ends [
@@ -152,8 +143,7 @@ module _ (g : WeightedGraph) (lawful : IsGraph g)
 pub more_room : (g : WeightedGraph) → IsGraph g
     → ((e : EdgeNumber) → e < length g.edges → unsigned_abs (edge_at g e).cost ≤ 2 ^ 57)
     → (wish y new : List ℤ) (k : EdgeNumber) (edge : WEdge) → k < length g.edges → AreWished g wish y k
-    → length wish ≡ g.n
-    → edge ≡ edge_at g k → new ≡ with_room_on edge y → AreWished g wish new (k + 1)
+    → length wish ≡ g.n → edge ≡ edge_at g k → new ≡ with_room_on edge y → AreWished g wish new (k + 1)
 more_room g lawful cheap wish y new k edge low so long at is =
     by_order (ltb (edge_at g k).u (edge_at g k).v) (is ∙ ap (λ (e : WEdge). with_room_on e y) at)
   where

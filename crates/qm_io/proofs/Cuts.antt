@@ -32,12 +32,10 @@ pub prefix_more : (before mid now : Option (List ℕ)) (piece rest : List ℕ) (
     → rest ≡ drop (length piece - length rest) piece → mid ≡ took before (take (length piece - length rest) piece)
     → now ≡ took mid (take n rest)
     → now ≡ took before (take (length piece - length (take (length rest - n) (drop n rest))) piece)
-prefix_more before mid now piece rest n fits is prefix more =
-    more
-    ∙ ap (λ (o : Option (List ℕ)). took o (take n rest)) prefix
-    ∙ ap (λ (xs : List ℕ). took (took before (take (length piece - length rest) piece)) (take n xs)) is
-    ∙ took-split before (length piece - length rest) n piece
-    ∙ ap (λ (m : ℕ). took before (take m piece)) (left_place piece rest n fits is)
+prefix_more before mid now piece rest n fits is prefix more = more ∙ ap (λ (o : Option (List ℕ)). took o (take n rest))
+    prefix ∙ ap (λ (xs : List ℕ). took (took before (take (length piece - length rest) piece)) (take n xs)) is
+    ∙ took-split before (length piece - length rest) n piece ∙ ap (λ (m : ℕ). took before (take m piece))
+    (left_place piece rest n fits is)
 
 -- Two pieces that a source gave one after the other are one piece.
 pub gave_more : (before mid now : Option (List ℕ)) (old piece new : List ℕ) → new ≡ old ++ piece
@@ -60,11 +58,6 @@ length-pieces (b ∷ bs) = grind (arith, length-pieces bs, length-in_front b (pi
 pub length-ends_from : (s : ℕ) (ps : List (List ℕ)) → length (ends_from s ps) ≡ length ps
 length-ends_from s [] = refl
 length-ends_from s (p ∷ ps) = ap suc (length-ends_from (s + length p) ps)
-
--- The byte in front stands in front of all.
-flat-in_front : (b : ℕ) (ps : List (List ℕ)) → flat_map (λ p. p) (byte_in_front b ps) ≡ b ∷ flat_map (λ p. p) ps
-flat-in_front b [] = refl
-flat-in_front b (p ∷ ps) = refl
 
 -- The pieces joined are the text.
 pub flat-pieces : (bs : List ℕ) → flat_map (λ p. p) (pieces bs) ≡ bs
@@ -248,18 +241,14 @@ module _ (bs rest : Bytes) (i : ℕ) (at : rest ≡ tail_of i bs) where
         ∙ (get_or-drop i (lines_of bs) 0 [] ∙ ap (λ (k : ℕ). get_or (lines_of bs) k []) same)
 
     pub cut_behind : behind ≡ tail_of (i + 1) bs
-    cut_behind =
-        more
-        ∙ (ap (tail_of 1) at
-        ∙ ap (λ (ps : Lines). flat_map (λ p. p) ps) (ap (λ (ps : Lines). drop 1 ps) (last_pieces bs i)
-        ∙ drop-drop 1 i (pieces bs)))
+    cut_behind = more ∙ (ap (tail_of 1) at ∙ ap (λ (ps : Lines). flat_map (λ p. p) ps) (ap (λ (ps : Lines). drop 1 ps)
+        (last_pieces bs i) ∙ drop-drop 1 i (pieces bs)))
 
 -- Reading words one by one.
 
 -- A word that fits is read as it is where it is text, and else as the empty word.
 pub word_read : (most : ℕ) (given : Option Lines) (i : ℕ) (bytes word : Bytes) → IsWordAt given i bytes
-    → length bytes ≤ most
-    → (IsUtf8 bytes → word ≡ bytes) → (¬ IsUtf8 bytes → word ≡ []) → IsReadAt most given i word
+    → length bytes ≤ most → (IsUtf8 bytes → word ≡ bytes) → (¬ IsUtf8 bytes → word ≡ []) → IsReadAt most given i word
 word_read most None i bytes word is fits text other = tt
 word_read most (Some given) i bytes word is fits text other = search rules
 
@@ -278,8 +267,7 @@ reads_more most (Some given) i words word read is = record {
 
     by_place : (k : ℕ) → (k < i) ⊎ (i ≤ k) → k < i + 1
         → IsReadAs most (get_or given k []) (get_or (words ++ word ∷ []) k [])
-    by_place k (inl l) _ =
-        rw (get_or_append_left words (word ∷ []) [] k (omega (arith, l, read.many))) (read.each k l)
+    by_place k (inl l) _ = rw (get_or_append_left words (word ∷ []) [] k (omega (arith, l, read.many))) (read.each k l)
     by_place k (inr high) l = let e : k ≡ i = omega (arith, high, l) in rw (e, last) is.1
 
 -- One word more in a list of texts.

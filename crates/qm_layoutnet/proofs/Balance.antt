@@ -99,9 +99,8 @@ module _ (l : Gluing) (old wish : Lengths) (set : Settings) (floor : Lengths) (n
   hits_none p s k forward never = search (rules, total_below_none)
 
   -- Where slot w has it, that is the entry of the arc, if w is on the side.
-  hits_at : (p : ℕ) (s : Way) (k : ℕ) (forward : Bool) (w : Slot) → p < l.patches → IsSlot l w
-      → use_of l w ≡ use_of_arc k forward
-      → hits p s k forward ≡ cond (is_on_side (node_of p s) (is_plus s) (end_at w.patch w.side)) (x k) (pos 0)
+  hits_at : (p : ℕ) (s : Way) (k : ℕ) (forward : Bool) (w : Slot) → p < l.patches → IsSlot l w → use_of l w ≡ use_of_arc
+      k forward → hits p s k forward ≡ cond (is_on_side (node_of p s) (is_plus s) (end_at w.patch w.side)) (x k) (pos 0)
   hits_at p s k forward w low slot e = by_place (is_on_side (node_of p s) (is_plus s) (end_at w.patch w.side)) refl
     where
       place : (j : ℕ) → j < l.many p s → l.use_at p s j ≡ use_of_arc k forward → slot_at p s j ≡ w

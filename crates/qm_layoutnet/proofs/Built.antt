@@ -135,9 +135,8 @@ module _ {l : Gluing} {x floor : Lengths} {set : Settings} {net : Network} (laid
   -- The sum along a side is the size of the side.
   along_is : (p : ℕ) (s : Way) → p < l.patches → sum_along l (λ k. pos (arc_at net.arcs k).old) p s ≡ pos (size l x p s)
   along_is p s low = total_below_same (λ k. pos _) (λ k. pos (x (l.use_at p s k).arc)) (l.many p s)
-      (λ k less. ap pos (is.olds (l.use_at p s k).arc
-      (laid.paved.arc_low (record { patch = p; side = s; at = k }) (record { patch_low = low; low = less }))))
-      ∙ sym (size_is l x p s)
+      (λ k less. ap pos (is.olds (l.use_at p s k).arc (laid.paved.arc_low (record { patch = p; side = s; at = k })
+      (record { patch_low = low; low = less })))) ∙ sym (size_is l x p s)
 
   even : IsEven net
   even = record {

@@ -93,8 +93,7 @@ module _ (net : Network) (floor : Lengths) (new : Network) (has : HasFloors net 
           let a = arc_at net.arcs k in
           let all : Bool = list_all (λ (e : End). nat_lt e.node net.nodes) (ends a) in
           let numbers = nat_le 1 a.weight && nat_le a.weight MAX_WEIGHT && nat_le a.old MAX_OLD in
-          let parts = and_parts (numbers && nat_le 1 a.floor && nat_le a.floor MAX_FLOOR) all
-          (arc_bounded net b k l) in
+          let parts = and_parts (numbers && nat_le 1 a.floor && nat_le a.floor MAX_FLOOR) all (arc_bounded net b k l) in
           let first = and_parts numbers _ (and_parts (numbers && nat_le 1 a.floor) _ parts.0).0 in
           let kept : is_bounded net.nodes (at_floor (floor k) (arc_at net.arcs k)) ≡ true =
           rw (first.0, le-leb 1 (floor k) (within k l).0, le-leb (floor k) MAX_FLOOR (within k l).1) parts.1 in
@@ -149,9 +148,8 @@ module _ (l : Gluing) (x : Lengths) (rises : List Rise) (are : AreNeeded l x ris
           → count_below (λ a. MAX_FLOOR - risen_floors rs floors a) l.arcs
           < count_below (λ a. MAX_FLOOR - floors a) l.arcs
       by_first [] some first higher = absurd (omega arith)
-      by_first (r ∷ rs) some first higher =
-          count_below_lt (λ a. MAX_FLOOR - risen_floors (r ∷ rs) floors a) (λ a. MAX_FLOOR - floors a) l.arcs r.arc
-          first.there (λ a low. omega (arith, higher a)) (omega (
+      by_first (r ∷ rs) some first higher = count_below_lt (λ a. MAX_FLOOR - risen_floors (r ∷ rs) floors a)
+          (λ a. MAX_FLOOR - floors a) l.arcs r.arc first.there (λ a low. omega (arith, higher a)) (omega (
             arith,
             kept r.arc first.there,
             cond-true (r.arc == r.arc) r.floor (risen_floors rs floors r.arc) (eq-eqb r.arc r.arc refl),

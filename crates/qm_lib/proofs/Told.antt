@@ -37,11 +37,7 @@ module _ {S O E : Type 0} (s : S → StreamState) (o : O → StreamState) (e : E
   ends_told given status (inr (words, read, exits)) = inr (
     words,
     read,
-    record {
-      answer = exits.answer;
-      runs = runs_told words exits.answer exits.runs;
-      said = exits.said;
-    },
+    record { answer = exits.answer; runs = runs_told words exits.answer exits.runs; said = exits.said },
   )
 
 -- What contracts see of a sink in memory.
@@ -57,11 +53,9 @@ new_is sink (empty, well) = λ i. in_memory (empty i) (well i)
 
 -- A run that began with a source of these bytes and with two new sinks.
 pub ran_over : {S : Type 0} (left_of : S → Bytes) (words input : Bytes) (before after : S) (out out' err err' : Store)
-    (given : Option Lines) (status : ℕ)
-    → Ends given (stream (λ held. in_memory (left_of held) 0) before after) (stream seen_of out out')
-    (stream seen_of err err') status
-    → given ≡ Some (lines_of words) → left_of before ≡ input → IsNew out → IsNew err
-    → HasRunOver words input out'.taken err'.taken status
+    (given : Option Lines) (status : ℕ) → Ends given (stream (λ held. in_memory (left_of held) 0) before after)
+    (stream seen_of out out') (stream seen_of err err') status → given ≡ Some (lines_of words) → left_of before ≡ input
+    → IsNew out → IsNew err → HasRunOver words input out'.taken err'.taken status
 ran_over left_of words input before after out out' err err' given status ends is held new_out new_err =
     let seen = ends_told (λ held. in_memory (left_of held) 0) seen_of seen_of before after out out' err err' given
     status ends in
@@ -69,8 +63,7 @@ ran_over left_of words input before after out out' err err' given status ends is
       left = left_of after;
       out_faults = out'.faults;
       err_faults = err'.faults;
-      ends =
-          subst (λ (lines : Option Lines). Ends lines (from_to (in_memory input 0) (in_memory (left_of after) 0))
+      ends = subst (λ (lines : Option Lines). Ends lines (from_to (in_memory input 0) (in_memory (left_of after) 0))
           (from_to (in_memory [] 0) (seen_of out')) (from_to (in_memory [] 0) (seen_of err')) status) is
           (subst (λ (first : StreamState). Ends given (from_to (in_memory input 0) (in_memory (left_of after) 0))
           (from_to (in_memory [] 0) (seen_of out')) (from_to first (seen_of err')) status) (new_is err new_err)

@@ -5,7 +5,7 @@ use Rattle.std.proofs.Common.{◌||◌}
 use Rattle.std.proofs.lemmas.List.{get_or_default, at_drop_more, drop_all, get_or-take, length-map, same_lists}
 use Rattle.std.proofs.{lemmas.Bool.not-false, lemmas.Bool.or_parts, lemmas.List.FromFn.get_or-map-range_with_len}
 use Rattle.std.proofs.{lemmas.List.FromFn.length-range_with_len, lemmas.Slice.Eq.bytes_eq-Decides, lemmas.Simd.map-map}
-use Rattle.std.specs.{List.All, List.range_with_len, List.list_all, List.list_any, Prelude.slice_range, Str.bytes_eq}
+use Rattle.std.specs.{List.All, List.range_with_len, List.list_all, List.list_any, Str.bytes_eq}
 use Rattle.def_fit.specs.WishLines.{all_wish_fails, edge_wishes, is_wish_line, vertex_line_count, wish_or, wishes_said}
 use Rattle.def_fit.specs.WishLines.{Wished, all_wished, wish_fails, wish_words, wished_by, wishes_of}
 use Rattle.{def_fit.specs.declared.fit.TheConstants.MAX_WISH, def_marks.specs.Chains.runs_between}
@@ -25,9 +25,8 @@ wish_or_more faces d before (wished ∷ one) more =
 pub record IsAtWish (soup : FaceSet) (lines : Lines) (all i : ℕ) (list : List ℕ) : Type 0 where
   pub long : length list ≡ darts soup.faces
   pub fails : all_wish_fails soup all (i + 1) (drop i lines) ≡ all_wish_fails soup all 1 lines
-  pub wishes : (d : ℕ) → d < darts soup.faces
-      → wish_or soup.faces d (get_or list d 0) (all_wished soup.names (drop i lines))
-      ≡ wish_or soup.faces d 1000 (all_wished soup.names lines)
+  pub wishes : (d : ℕ) → d < darts soup.faces → wish_or soup.faces d (get_or list d 0)
+      (all_wished soup.names (drop i lines)) ≡ wish_or soup.faces d 1000 (all_wished soup.names lines)
   pub small : (d : ℕ) → d < darts soup.faces → get_or list d 0 ≤ MAX_WISH
 
 module _ {soup : FaceSet} {lines : Lines} {all i : ℕ} {wishes : List ℕ} (known : IsAtWish soup lines all i wishes) where
@@ -84,18 +83,13 @@ module _ {soup : FaceSet} {lines : Lines} {all i : ℕ} {wishes : List ℕ} (kno
             let f : ℕ → ℕ = λ d. wish_or soup.faces d 1000 (all_wished soup.names lines) in
             let long : length (map f (range_with_len 0 (darts soup.faces))) ≡ darts soup.faces =
             length-map (range_with_len 0 (darts soup.faces)) f ∙ length-range_with_len 0 (darts soup.faces) in
-            same_lists (map f (range_with_len 0 (darts soup.faces))) wishes (long ∙ sym known.long)
-            (λ k d l.
+            same_lists (map f (range_with_len 0 (darts soup.faces))) wishes (long ∙ sym known.long) (λ k d l.
             let low : k < darts soup.faces = omega arith in
             get_or-map-range_with_len f 0 (darts soup.faces) k k d low (omega arith)
             ∙ sym (get_or_default wishes k d 0 (omega arith) ∙ each k low))
 
     pub at_small : All (λ wish. wish ≤ MAX_WISH) wishes
     at_small k d l = rw (← get_or_default wishes k 0 d l) (known.small k (omega arith))
-
--- All lines before one, and the list of one number.
-pub first_lines : (lines : Lines) (after : ℕ) → slice_range lines 0 after ≡ take after lines
-first_lines lines after = let e : after - 0 ≡ after = omega arith in rw e refl
 
 -- A line before that one.
 pub low_in : (text : Bytes) (after i : ℕ) → after ≤ length (lines_of text) → i < after
@@ -129,9 +123,8 @@ any_map p f [] = refl
 any_map p f (x ∷ xs) = ap (λ b. p (f x) || b) (any_map p f xs)
 
 -- What is found of indices is so of corners.
-pub nothing_is : (all before : ℕ) (corners : Words) (indices : List Index)
-    → indices ≡ map (corner_index all before) corners
-    → list_any is_nothing indices ≡ list_any (λ word. is_nothing (corner_index all before word)) corners
+pub nothing_is : (all before : ℕ) (corners : Words) (indices : List Index) → indices ≡ map (corner_index all before)
+    corners → list_any is_nothing indices ≡ list_any (λ word. is_nothing (corner_index all before word)) corners
 nothing_is all before corners indices are = search (rules, any_map)
 
 pub chain_is : (names : List ℕ) (all before : ℕ) (corners : Words) (indices : List Index) (chain : List ℕ)

@@ -2,25 +2,24 @@
 use Rattle.std.proofs.Common.{rules, Bool, List, Option, Some, arith, eqb, false, is_some, sym, ◌&&◌, ◌+◌, ◌<◌, ◌||◌}
 use Rattle.std.proofs.Common.{◌∙◌, ◌≡◌, ap, ℕ, None, [], get_or, length, refl, true, inl, inr, set, ◌∷◌, ◌≢◌, ◌⊎◌, map}
 use Rattle.std.proofs.Common.{◌%◌, ◌*◌, ◌++◌, ◌-◌, ◌/◌, ◌^◌, ◌≤◌, cond}
+use Rattle.std.proofs.{lemmas.Bool.or_right, lemmas.Bool.cases_Bool, lemmas.Option.none-some, lemmas.Option.same_Some}
+use Rattle.std.proofs.{lemmas.List.Elements.Contains-get_or, lemmas.List.Elements.at_from_Contains}
+use Rattle.std.proofs.{lemmas.List.Sorted.Contains-permutation, lemmas.List.Sorted.IsPermutation-sym}
 use Rattle.std.proofs.lemmas.List.FromFn.{get_or-map-range_with_len, length-range_with_len, get_or-range_with_len}
 use Rattle.std.proofs.lemmas.List.{length-map, get_or-set_other, get_or-set_same, length-set, get_or-map, map-append}
 use Rattle.std.proofs.lemmas.Bool.{and_from, and_parts, cases_eq, eqb-true, false≢true, or_cases, eq-eqb, or_left}
-use Rattle.std.proofs.lemmas.Bool.{or_right, cases_Bool}
 use Rattle.std.proofs.lemmas.List.Folds.{list_all-append, list_all_at, list_any-append}
-use Rattle.std.proofs.{lemmas.Option.none-some, lemmas.Option.same_Some, Math.Bool.and-true, Math.Bool.or-false}
-use Rattle.std.proofs.{Math.Bool.or_comm, lemmas.List.Elements.Contains-get_or, lemmas.List.Elements.at_from_Contains}
-use Rattle.std.proofs.{lemmas.List.Sorted.Contains-permutation, lemmas.List.Sorted.IsPermutation-sym}
-use Rattle.std.proofs.{lemmas.Nat.div-mul-add, lemmas.Nat.mod-mul-add}
-use Rattle.std.specs.{List.list_any, List.list_all, List.range_with_len, List.Contains, List.Sorted.IsNonDecreasing}
-use Rattle.std.specs.{List.Sorted.IsPermutation, Prelude.filter}
+use Rattle.std.proofs.Math.Bool.{and-true, or-false, or_comm}
+use Rattle.std.specs.List.{list_any, list_all, range_with_len, Contains}
+use Rattle.std.specs.{List.Sorted.IsNonDecreasing, List.Sorted.IsPermutation, Prelude.filter}
 use Rattle.def_marks.specs.Chains.{is_along_chains, link_at, marks_along, runs_along, runs_between, step_places}
-use Rattle.def_marks.specs.Chains.{is_edge}
 use Rattle.def_mesh.specs.Darts.{IsTwin, all_darts, from_of, twin_of, darts, to_of, next_of}
 use Rattle.def_mesh.specs.{Manifold.IsManifold, Faces.Faces, Vertices.vertex_count}
-use Rattle.mesh_laws.proofs.{Chains.twin_found, Chains.twin_is, Chains.next_of_low, Flood.all_below}
+use Rattle.mesh_laws.proofs.Chains.{twin_found, twin_is, next_of_low}
 use Rattle.list_laws.proofs.Filters.{range_any, range_more, filter_range_more, kept_at, place_of}
 use Rattle.qm_marks.specs.Keys.{IsNoneBetween, AreEnds, IsBetween, IsLeastPlace, dart_key, is_busy, key_of}
-use Rattle.{def_feature.specs.Marks.AreMarks, def_cut.specs.FullCut.is_on}
+use Rattle.{std.proofs.lemmas.Nat.div-mul-add, std.proofs.lemmas.Nat.mod-mul-add, def_marks.specs.Chains.is_edge}
+use Rattle.{mesh_laws.proofs.Flood.all_below, def_feature.specs.Marks.AreMarks, def_cut.specs.FullCut.is_on}
 
 -- The mark of a dart.
 pub mark_along : (faces : Faces) (chains : List (List ℕ)) (d : ℕ) → d < darts faces → is_on (marks_along faces chains) d
@@ -141,17 +140,16 @@ module _ (faces : Faces) (m : IsManifold faces) where
   pub mark_both : (d t : ℕ) (marks : List Bool) → d < darts faces → length marks ≡ darts faces → twin_of faces d
       ≡ Some t → (x : ℕ) → x < darts faces → is_on (set (set marks d true) t true) x
       ≡ (is_on marks x || (is_some (twin_of faces x) && runs_between faces (from_of faces d) (to_of faces d) x))
-  mark_both d t marks ld long twin x lx = put_two marks true false d t ld long twin x lx
-      ∙ elim (edge_cases d x ld lx) [
-        | inl on ↦
-            let some : is_some (twin_of faces x) ≡ true = elim on.1 [
-              | inl e ↦ ap (λ y. is_some (twin_of faces y)) e ∙ ap is_some twin
-              | inr tw ↦ let is = twin_is faces d x tw in
-                  ap is_some (twin_found faces m.edges_once x d (ld, sym is.2, sym is.1))
-            ] in
-            rw (on.0, some) (sym (or_right (is_on marks x) true refl))
-        | inr off ↦ rw off.0 (unmarked (is_on marks x) (is_some (twin_of faces x)))
-      ]
+  mark_both d t marks ld long twin x lx = put_two marks true false d t ld long twin x lx ∙ elim (edge_cases d x ld lx) [
+    | inl on ↦
+        let some : is_some (twin_of faces x) ≡ true = elim on.1 [
+          | inl e ↦ ap (λ y. is_some (twin_of faces y)) e ∙ ap is_some twin
+          | inr tw ↦ let is = twin_is faces d x tw in
+              ap is_some (twin_found faces m.edges_once x d (ld, sym is.2, sym is.1))
+        ] in
+        rw (on.0, some) (sym (or_right (is_on marks x) true refl))
+    | inr off ↦ rw off.0 (unmarked (is_on marks x) (is_some (twin_of faces x)))
+  ]
 
 -- A dart between u and v has the darts of its edge between its own ends.
 pub same_edge : (faces : Faces) (u v d x : ℕ) → runs_between faces u v d ≡ true

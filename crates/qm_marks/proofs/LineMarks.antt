@@ -9,9 +9,8 @@ use Rattle.def_marks.specs.{Chains.is_along_chains, Chains.marks_along, Chains.r
 use Rattle.def_marks.specs.{declared.fail.MarkFail.MarkFail}
 use Rattle.def_mesh.specs.{Darts.all_darts, Darts.darts, Darts.twin_of, Faces.Faces, Manifold.IsManifold}
 use Rattle.def_text.specs.{Logical.logical_lines, Logical.Logical, Reading.is_vertex_line}
-use Rattle.def_text.specs.{declared.limits.TheConstants.MAX_V_LINES, FaceSet.FaceSet}
-use Rattle.qm_marks.specs.{Reading.IsBegun, Reading.IsReading, Reading.TookLine, Reading.placed_at}
-use Rattle.qm_marks.specs.{declared.lines.MarkReader.MarkReader}
+use Rattle.def_text.specs.FaceSet.{FaceSet}
+use Rattle.qm_marks.specs.{Reading.IsReading, Reading.TookLine, Reading.placed_at, declared.lines.MarkReader.MarkReader}
 use Rattle.qm_marks.proofs.EdgeMarks.{mark_along, merged, marks_are}
 use Rattle.qm_obj.{proofs.Groups.next_lines, proofs.Groups.span_within, specs.Ahead.span, specs.Lines.first_logical}
 use Rattle.{def_feature.specs.Marks.AreMarks, def_cut.specs.FullCut.is_on, def_io.specs.Bytes.Lines}
@@ -60,8 +59,7 @@ module _ {soup : FaceSet} {mesh : Faces} where
           || (is_some (twin_of soup.faces d) && is_said soup (placed_lines (took.same.all i) (took.before i) rest) d))
           ∙ rw (took.marked d l) (merged (is_on old.marks.items d) (is_some (twin_of soup.faces d))
           (runs_along soup.faces (line_chain soup (placed_at old.all old.before line)) d)
-          (is_said soup (placed_lines old.all (old.before + vertex_lines_in line) rest) d)
-          ∙ known.marks d l);
+          (is_said soup (placed_lines old.all (old.before + vertex_lines_in line) rest) d) ∙ known.marks d l);
     }
 
     -- A line that is refused is the first one.
@@ -128,13 +126,6 @@ module _ {soup : FaceSet} {mesh : Faces} {all : Lines} {first i after : ℕ} {re
 
   pub at_inner : after ≤ i → IsManifold mesh → AreMarks mesh reader.marks.items
   at_inner past m = search (rules, left_same, marks_are)
-
--- Before the first line.
-pub at_first : (soup : FaceSet) (mesh : Faces) (all : Lines) (first after count : ℕ) (reader : MarkReader)
-    → first ≤ after → mesh ≡ soup.faces → length soup.names ≤ MAX_V_LINES
-    → count ≡ count_by is_vertex_line (logical_lines (first + 1) (slice_range all first after))
-    → IsBegun mesh count reader → IsAtLine soup mesh all first first after reader
-at_first soup mesh all first after count reader order same few is begun = search rules
 
 -- The `v` lines before line i are counted.
 pub record IsCounted (all : Lines) (first i after count : ℕ) : Type 0 where

@@ -61,17 +61,9 @@ module _ (soup : FaceSet) (all number : ℕ) (words : Words) (low : all < 2 ^ 32
       wish_is : said.wish ≡ is.wished.wish
       wish_is = is.wish ∙ unclamped MAX_WISH is.wished.wish (omega arith) (ap (nat_lt MAX_WISH) (sym is.wish) ∙ off.2)
 
-      pub fits : (said.u < 2 ^ 32) × (said.v < 2 ^ 32) × (said.wish < 2 ^ 32)
-      fits = (
-        omega (arith, ltb-false all said.u off.0),
-        omega (arith, ltb-false all said.v off.1),
-        omega (arith, ltb-false MAX_WISH said.wish off.2),
-      )
-
       -- Whether the edge is one.
-      by_edge : said_fails soup all number (wished_by words)
-          ≡ cond (is_edge soup.faces (vertex_named soup.names said.u) (vertex_named soup.names said.v)) []
-          (NotEdge number ∷ [])
+      by_edge : said_fails soup all number (wished_by words) ≡ cond (is_edge soup.faces (vertex_named soup.names said.u)
+          (vertex_named soup.names said.v)) [] (NotEdge number ∷ [])
       by_edge = rw (is.told, sym far_same ∙ near, u_is, v_is) refl
 
       pub takes_no_edge : is_edge soup.faces (vertex_named soup.names said.u) (vertex_named soup.names said.v) ≡ false
@@ -79,12 +71,11 @@ module _ (soup : FaceSet) (all number : ℕ) (words : Words) (low : all < 2 ^ 32
       takes_no_edge none = by_edge ∙ rw none refl
 
       -- The wish is put at the darts of the edge.
-      pub takes_wish : (old new : List ℕ)
-          → is_edge soup.faces (vertex_named soup.names said.u) (vertex_named soup.names said.v) ≡ true
-          → ((d : ℕ) → d < darts soup.faces → get_or new d 0
-          ≡ cond (runs_between soup.faces (vertex_named soup.names said.u) (vertex_named soup.names said.v) d) said.wish
-          (get_or old d 0))
-          → TakesWish soup all number words old new
+      pub takes_wish : (old new : List ℕ) → is_edge soup.faces (vertex_named soup.names said.u)
+          (vertex_named soup.names said.v) ≡ true
+          → ((d : ℕ) → d < darts soup.faces → get_or new d 0 ≡ cond
+          (runs_between soup.faces (vertex_named soup.names said.u) (vertex_named soup.names said.v) d) said.wish
+          (get_or old d 0)) → TakesWish soup all number words old new
       takes_wish old new edge put = record {
         accepted = by_edge ∙ rw edge refl;
         wishes = λ d l. rw (is.told, ← u_is, ← v_is, ← wish_is) (put d l);

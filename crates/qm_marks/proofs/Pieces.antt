@@ -32,10 +32,6 @@ module _ (all before : ℕ) (text rest after : List ℕ) (word : Word) (indices 
         → IsReadTo all before text after (indices ++ index ∷ [])
     read_more index is = search (rules, append_assoc)
 
-    -- A word that is none.
-    pub read_bad : is_line_corner word ≡ false → false ≡ list_all is_line_corner (words text)
-    read_bad off = search rules
-
 -- The parts of a word before and behind its first slash.
 pub behind_slash : (p : ℕ → Bool) (word : Word) → drop 1 (drop (position_or_len p word) word) ≡ after_first p word
 behind_slash p word = drop-drop 1 (position_or_len p word) word
@@ -59,9 +55,8 @@ first_word (b ∷ bs) at_word =
     let off : is_blank b ≡ false = at_word (omega arith) in
     let end : position_or_len is_blank (b ∷ bs) ≡ suc (position_or_len is_blank bs) = rw off (omega arith) in
     let n = suc (position_or_len is_blank bs) in
-    rw end (words_word b bs off
-    ∙ sym (cond-false (eqb (length (take n (b ∷ bs))) 0) [] (take n (b ∷ bs) ∷ words (drop n (b ∷ bs)))
-    (some_bytes (length (take (position_or_len is_blank bs) bs)))))
+    rw end (words_word b bs off ∙ sym (cond-false (eqb (length (take n (b ∷ bs))) 0) []
+    (take n (b ∷ bs) ∷ words (drop n (b ∷ bs))) (some_bytes (length (take (position_or_len is_blank bs) bs)))))
 
 -- Pieces of a text that are divided by one blank each, and the numbers that they write.
 

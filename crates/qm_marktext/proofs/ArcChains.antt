@@ -19,12 +19,8 @@ use Rattle.{def_remesh.specs.NewPoints.lengths_in, qm_marktext.specs.Chains.chai
 
 -- Sums below a bound grow with it.
 grows : (f : ℕ → ℕ) (a n : ℕ) → count_below f a ≤ count_below f (a + n)
-grows f a zero =
-    let e : a + 0 ≡ a = omega arith in
-    omega (arith, ap (count_below f) e)
-grows f a (suc n) =
-    let e : a + suc n ≡ suc (a + n) = omega arith in
-    omega (arith, grows f a n, ap (count_below f) e)
+grows f a zero = let e : a + 0 ≡ a = omega arith in omega (arith, ap (count_below f) e)
+grows f a (suc n) = let e : a + suc n ≡ suc (a + n) = omega arith in omega (arith, grows f a n, ap (count_below f) e)
 
 module _ (gluing : Gluing) (new : Lengths) (few : vertices gluing new < 2 ^ 32) (a : ℕ) (low : a < gluing.arcs) where
   -- The inner points of arc a and those before them are few.
@@ -36,9 +32,6 @@ module _ (gluing : Gluing) (new : Lengths) (few : vertices gluing new < 2 ^ 32) 
   module _ (some : 0 < new a) where
     abbrev f : ℕ → ℕ
     f k = vertex_number gluing new (arc_point gluing new a k)
-
-    first_is : f 0 ≡ gluing.first a
-    first_is = refl
 
     last_is : f (new a) ≡ gluing.last a
     last_is = ap (vertex_number gluing new)
@@ -67,12 +60,9 @@ module _ (gluing : Gluing) (new : Lengths) (few : vertices gluing new < 2 ^ 32) 
         same : map f (range_with_len 1 (new a - 1)) ≡ map (λ k. gluing.nodes + before_arc new a + k)
             (range_with_len 0 (new a - 1))
         same = same_lists (map f (range_with_len 1 (new a - 1))) (map (λ k. gluing.nodes + before_arc new a + k)
-            (range_with_len 0 (new a - 1)))
-            (length-map (range_with_len 1 (new a - 1)) f
-            ∙ (length-range_with_len 1 (new a - 1)
-            ∙ sym (length-map (range_with_len 0 (new a - 1)) (λ k. gluing.nodes + before_arc new a + k)
-            ∙ length-range_with_len 0 (new a - 1))))
-            (λ k d l.
+            (range_with_len 0 (new a - 1))) (length-map (range_with_len 1 (new a - 1)) f
+            ∙ (length-range_with_len 1 (new a - 1) ∙ sym (length-map (range_with_len 0 (new a - 1))
+            (λ k. gluing.nodes + before_arc new a + k) ∙ length-range_with_len 0 (new a - 1)))) (λ k d l.
             let m : k < new a - 1 = omega (
               arith,
               l,
@@ -88,8 +78,7 @@ module _ (gluing : Gluing) (new : Lengths) (few : vertices gluing new < 2 ^ 32) 
 pub text_more : (marks : List Bool) (layout : Layout) (new : Lengths) (n : ℕ)
     → flat_map (arc_text marks layout new) (range_with_len 0 (n + 1))
     ≡ flat_map (arc_text marks layout new) (range_with_len 0 n) ++ arc_text marks layout new n
-text_more marks layout new n =
-    ap (flat_map (arc_text marks layout new)) (range_more n)
+text_more marks layout new n = ap (flat_map (arc_text marks layout new)) (range_more n)
     ∙ (flat_map-append (arc_text marks layout new) (range_with_len 0 n) (n ∷ [])
     ∙ ap (λ xs. flat_map (arc_text marks layout new) (range_with_len 0 n) ++ xs)
     (append-nil (arc_text marks layout new n)))
@@ -104,15 +93,11 @@ module _ (marks : List Bool) (t : TMesh) (x : List ℕ) (a : ℕ) (arc : TArc) (
     ≡ get_or t.arcs.items a arc) where
   -- A marked arc has its line,
   pub text_on : vertices (gluing_of (layout_of t)) (lengths_in x) < 2 ^ 32 → 0 < lengths_in x a
-      → is_on marks (slice_index arc.darts.items 0) ≡ true
-      → arc_text marks (layout_of t) (lengths_in x) a
-      ≡ chain_text (chain_from arc.first (length t.nodes.items + before_arc (lengths_in x) a) (lengths_in x a)
-      arc.last)
-  text_on few some on =
-      ap (λ (b : Bool). cond b (chain_text (arc_chain (gluing_of (layout_of t)) (lengths_in x) a)) [])
-      (ap (λ (p : Path). is_on marks (slice_index p.darts 0)) (arc_is t a arc low is) ∙ on)
-      ∙ ap chain_text (chain_is (gluing_of (layout_of t)) (lengths_in x) few a
-      (omega (arith, low, length-map t.arcs.items path)) some
+      → is_on marks (slice_index arc.darts.items 0) ≡ true → arc_text marks (layout_of t) (lengths_in x) a ≡ chain_text
+      (chain_from arc.first (length t.nodes.items + before_arc (lengths_in x) a) (lengths_in x a) arc.last)
+  text_on few some on = ap (λ (b : Bool). cond b (chain_text (arc_chain (gluing_of (layout_of t)) (lengths_in x) a)) [])
+      (ap (λ (p : Path). is_on marks (slice_index p.darts 0)) (arc_is t a arc low is) ∙ on) ∙ ap chain_text
+      (chain_is (gluing_of (layout_of t)) (lengths_in x) few a (omega (arith, low, length-map t.arcs.items path)) some
       ∙ ap (λ (p : Path). chain_from p.first (length t.nodes.items + before_arc (lengths_in x) a) (lengths_in x a)
       p.last) (arc_is t a arc low is))
 
@@ -127,23 +112,20 @@ abbrev pub vertex_text : (vertex : ℕ) → Bytes
 vertex_text vertex = SPACE ∷ decimal (vertex + 1)
 
 -- One inner point more is written.
-pub inner_more : (before k : ℕ) → 1 ≤ k
-    → flat_map (λ vertex. SPACE ∷ decimal (vertex + 1)) (map (λ j. before + j) (range_with_len 0 (k + 1 - 1)))
-    ≡ flat_map (λ vertex. SPACE ∷ decimal (vertex + 1)) (map (λ j. before + j) (range_with_len 0 (k - 1)))
-    ++ SPACE ∷ decimal (before + k)
+pub inner_more : (before k : ℕ) → 1 ≤ k → flat_map (λ vertex. SPACE ∷ decimal (vertex + 1))
+    (map (λ j. before + j) (range_with_len 0 (k + 1 - 1))) ≡ flat_map (λ vertex. SPACE ∷ decimal (vertex + 1))
+    (map (λ j. before + j) (range_with_len 0 (k - 1))) ++ SPACE ∷ decimal (before + k)
 inner_more before k some =
     let e : k + 1 - 1 ≡ k - 1 + 1 = omega (arith, some) in
     let n : before + (k - 1) + 1 ≡ before + k = omega (arith, some) in
     ap (λ m. flat_map (λ vertex. SPACE ∷ decimal (vertex + 1)) (map (λ j. before + j) (range_with_len 0 m))) e
     ∙ (ap (λ xs. flat_map (λ vertex. SPACE ∷ decimal (vertex + 1)) (map (λ j. before + j) xs)) (range_more (k - 1))
     ∙ (ap (flat_map (λ vertex. SPACE ∷ decimal (vertex + 1))) (map-append (λ j. before + j) (range_with_len 0 (k - 1))
-    ((k - 1) ∷ []))
-    ∙ (flat_map-append (λ vertex. SPACE ∷ decimal (vertex + 1)) (map (λ j. before + j) (range_with_len 0 (k - 1)))
-    ((before + (k - 1)) ∷ [])
-    ∙ (ap (λ xs. flat_map (λ vertex. SPACE ∷ decimal (vertex + 1)) (map (λ j. before + j) (range_with_len 0 (k - 1)))
-    ++ xs) (append-nil (vertex_text (before + (k - 1))))
-    ∙ ap (λ m. flat_map (λ vertex. SPACE ∷ decimal (vertex + 1)) (map (λ j. before + j) (range_with_len 0 (k - 1)))
-    ++ SPACE ∷ decimal m) n))))
+    ((k - 1) ∷ [])) ∙ (flat_map-append (λ vertex. SPACE ∷ decimal (vertex + 1))
+    (map (λ j. before + j) (range_with_len 0 (k - 1))) ((before + (k - 1)) ∷ [])
+    ∙ (ap (λ xs. flat_map (λ vertex. SPACE ∷ decimal (vertex + 1)) (map (λ j. before + j) (range_with_len 0 (k - 1))) ++
+    xs) (append-nil (vertex_text (before + (k - 1)))) ∙ ap (λ m. flat_map (λ vertex. SPACE ∷ decimal (vertex + 1))
+    (map (λ j. before + j) (range_with_len 0 (k - 1))) ++ SPACE ∷ decimal m) n))))
 
 -- The parts of a line, put one behind another.
 parts_are : (text front inner last : Bytes) → (((text ++ LINE ∷ front) ++ inner) ++ last) ++ LINE_FEED ∷ []
@@ -157,9 +139,8 @@ pub line_is : (text : Bytes) (first before size last : ℕ)
     → (((text ++ LINE ∷ vertex_text first) ++ flat_map (λ vertex. SPACE ∷ decimal (vertex + 1))
     (map (λ j. before + j) (range_with_len 0 (size - 1)))) ++ vertex_text last) ++ LINE_FEED ∷ []
     ≡ text ++ chain_text (chain_from first before size last)
-line_is text first before size last =
-    parts_are text (vertex_text first) (flat_map (λ vertex. SPACE ∷ decimal (vertex + 1))
-    (map (λ j. before + j) (range_with_len 0 (size - 1)))) (vertex_text last)
-    ∙ ap (λ (xs : Bytes). text ++ (LINE ∷ (vertex_text first ++ xs) ++ LINE_FEED ∷ []))
-    (sym (flat_map-append (λ vertex. SPACE ∷ decimal (vertex + 1))
-    (map (λ j. before + j) (range_with_len 0 (size - 1))) (last ∷ [])))
+line_is text first before size last = parts_are text (vertex_text first)
+    (flat_map (λ vertex. SPACE ∷ decimal (vertex + 1)) (map (λ j. before + j) (range_with_len 0 (size - 1))))
+    (vertex_text last) ∙ ap (λ (xs : Bytes). text ++ (LINE ∷ (vertex_text first ++ xs) ++ LINE_FEED ∷ []))
+    (sym (flat_map-append (λ vertex. SPACE ∷ decimal (vertex + 1)) (map (λ j. before + j) (range_with_len 0 (size - 1)))
+    (last ∷ [])))

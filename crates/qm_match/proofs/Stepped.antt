@@ -136,9 +136,8 @@ module _ {g : WeightedGraph} {old : Search} (way : IsUnderWay g old) where
       fewer = grown_fewer g way.made.small.lawful f old.forest.root way.valid.valid d m growth.reach.off growth.mate;
     }
 
-    pub grown_stepped : {t : ForestTables} {new : Search} → IsValidFor g t
-        → IsRefreshed g (record old { forest = t }) new
-        → forest_of t ≡ after → t.root ≡ old.forest.root → IsFreshAt g new inn → IsFreshAt g new outer
+    pub grown_stepped : {t : ForestTables} {new : Search} → IsValidFor g t → IsRefreshed g (record old { forest = t })
+        new → forest_of t ≡ after → t.root ≡ old.forest.root → IsFreshAt g new inn → IsFreshAt g new outer
         → HasStepped g old new
     grown_stepped {t} {new} valid is grown_is root at_inner at_outer =
         let step : IsRightIn g (forest_of t) old.risen new inn → IsRightIn g (forest_of t) old.risen new outer

@@ -31,9 +31,8 @@ part_in_use is b k valid h live = elim (part_used (are_darts is) valid.valid.nes
     [ inl l ↦ inl l | inr w ↦ inr w.1 ]
 
 -- Keys may be mended at a part while only other tables changed.
-pub may_part : {g : WeightedGraph} (old : Search) {s : Search} (b k : ℕ) {p : ℕ} → IsMade g s
-    → IsValidFor g old.forest → g.n ≤ b → get_or old.forest.parts b 0 ≢ 0 → s.forest ≡ old.forest
-    → p ≡ part_of old.forest b k → MayRefresh g s p
+pub may_part : {g : WeightedGraph} (old : Search) {s : Search} (b k : ℕ) {p : ℕ} → IsMade g s → IsValidFor g old.forest
+    → g.n ≤ b → get_or old.forest.parts b 0 ≢ 0 → s.forest ≡ old.forest → p ≡ part_of old.forest b k → MayRefresh g s p
 may_part old b k made valid h live same is = rw is (record {
   made = made;
   valid = rw same valid;
@@ -54,8 +53,7 @@ parts_few {g} is {t} b valid h live =
     let shared = count_below_same (λ v. bool_number (f.holds b v)) (λ v. ring_sum f.nest.after
     (λ p. bool_number (f.holds p v)) (f.nest.head b) (f.nest.parts b)) g.n ring.shared in
     let sums = counts_exchanged f.nest.after (λ p v. bool_number (f.holds p v)) (f.nest.head b) g.n (f.nest.parts b) in
-    let many = ring_sum_high f.nest.after (blossom_size g.n f) (f.nest.head b) (get_or t.parts b 0)
-    (λ k. omega (
+    let many = ring_sum_high f.nest.after (blossom_size g.n f) (f.nest.head b) (get_or t.parts b 0) (λ k. omega (
       arith,
       odd_blossom (are_darts is) valid.valid.nested (part_of t b k)
           (part_used (are_darts is) valid.valid.nested ring k),
@@ -85,9 +83,8 @@ made_after t made size = let same = size ∙ made.size in search rules
 
 -- The matching has grown.
 pub augmented_idle : {g : WeightedGraph} {old : Search} {t : ForestTables} (d : ℕ) → IsUnderWay g old → IsValidFor g t
-    → t.root ≡ None → (r : ℕ) × (old.forest.root ≡ Some r)
-    × IsAugmented (darts_of g) (forest_of old.forest) (forest_of t) r d
-    → IsIdle g (record old { forest = t }) × HasEnded g.n old.forest t
+    → t.root ≡ None → (r : ℕ) × (old.forest.root ≡ Some r) × IsAugmented (darts_of g) (forest_of old.forest)
+    (forest_of t) r d → IsIdle g (record old { forest = t }) × HasEnded g.n old.forest t
 augmented_idle {g} {old} {t} d way valid root w =
     let size = ap (λ (f : Forest). f.size) w.2.changed in (
       record {

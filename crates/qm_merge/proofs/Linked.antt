@@ -33,11 +33,7 @@ module _ {mesh : HalfEdges} (laws : IsQuadManifold mesh) {cut : Cut} (full : IsC
   module _ {u : ℕ} (twin : mesh.twin s ≡ Some u) where
     -- The far side ends behind the twin.
     far_end : IsNextCorner mesh cut t (mesh.next u)
-    far_end = (
-      n - 1,
-      rw (← place) glued.far,
-      cc (same_Some u (easts mesh t (n - 1)) (sym twin ∙ over)),
-    )
+    far_end = (n - 1, rw (← place) glued.far, cc (same_Some u (easts mesh t (n - 1)) (sym twin ∙ over)))
 
     pub far_corner : IsCorner mesh cut (mesh.next u)
     far_corner = next_is_corner laws full far_end
@@ -126,10 +122,7 @@ module _ {mesh : HalfEdges} (laws : IsQuadManifold mesh) {cut : Cut} (full : IsC
   edge_twin {k} l at = (easts mesh t (n - suc k), cc (at, glued.across k (n - suc k) (omega arith)))
 
   pub leads_to : {d k : ℕ} → suc k < n → d ≡ easts mesh s k → (e : ℕ) × (mesh.twin (mesh.next d) ≡ Some e)
-  leads_to {k} l at = (
-    mesh.prev (easts mesh s (suc k)),
-    cc (at, side_link laws full glued.near k l),
-  )
+  leads_to {k} l at = (mesh.prev (easts mesh s (suc k)), cc (at, side_link laws full glued.near k l))
 
 -- Tables of linked corners: how they are filled, and how they follow an arc that leaves.
 
@@ -223,8 +216,7 @@ module _ {mesh : HalfEdges} (laws : IsQuadManifold mesh) {cut : Cut} (full : IsC
 
 -- What stands in a table in which two places were set.
 two_set : (xs : List ℕ) {ys : List ℕ} {a b x y : ℕ} → ys ≡ set (set xs a x) b y → (a ≡ b → ⊥) → a < length xs
-    → b < length xs
-    → (at ys a ≡ x) × (at ys b ≡ y) × ((c : ℕ) → (c ≡ a → ⊥) → (c ≡ b → ⊥) → at ys c ≡ at xs c)
+    → b < length xs → (at ys a ≡ x) × (at ys b ≡ y) × ((c : ℕ) → (c ≡ a → ⊥) → (c ≡ b → ⊥) → at ys c ≡ at xs c)
 two_set xs {a = a} {b} {x} {y} is ne la lb = rw is (
   get_or-set_other (set xs a x) b a y 0 ne ∙ get_or-set_same xs a x 0 la,
   get_or-set_same (set xs a x) b y 0 (omega (arith, length-set xs a x)),

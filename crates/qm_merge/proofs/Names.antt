@@ -27,10 +27,7 @@ apart_at k q ne = at_bits (ltb k q) (eqb k q) (ne_eqb k q ne)
 
 module _ (old new : BTreeSet ℕ) (k : ℕ) where
   pub put_kept : sorted.Updates nat_cmp old new k true → (name : ℕ) → Waits old name → Waits new name
-  put_kept up name w = elim (cases_eq k name) [
-    | inl e ↦ rw (← e) up.1
-    | inr ne ↦ up.2 name (apart_at k name ne) ∙ w
-  ]
+  put_kept up name w = elim (cases_eq k name) [ inl e ↦ rw (← e) up.1 | inr ne ↦ up.2 name (apart_at k name ne) ∙ w ]
 
   pub put_below : sorted.Updates nat_cmp old new k true → (count : ℕ) → k < count → AreBelow old count
       → AreBelow new count
@@ -79,10 +76,7 @@ module _ {mesh : HalfEdges} (laws : IsQuadManifold mesh) {cut : Cut} (full : IsC
       let here : IsJoinable mesh cut start b n = rw e joined in
       let far = one_far laws full is.joinable.glued here.glued in
       rw (far.1, far.0, e) y in
-      elim side [
-        | inl e ↦ from s t e arc free
-        | inr e ↦ from t s e (turned_arc laws full arc) (turn s t n free)
-      ]
+      elim side [ inl e ↦ from s t e arc free | inr e ↦ from t s e (turned_arc laws full arc) (turn s t n free) ]
 
   -- No joinable arc has a name that none has which begins at its start.
   pub none_named : (start : ℕ) {name : ℕ} → ((t n : ℕ) → IsJoinable mesh cut start t n → IsNameOf mesh start t n name

@@ -30,10 +30,7 @@ module _ {mesh : HalfEdges} (laws : IsQuadManifold mesh) {cut rest : Cut} (full 
       let start : (b k : ℕ) → IsWholeSide mesh cut b n → k < n → c ≡ easts mesh b k → c ≡ b = λ b k side l e.
       let first = first_place laws full side k l (cc (e, corner.2)) in
       cc (e, first) in
-      elim o.2 [
-        | inl e ↦ inl (start s o.0 arc.glued.near o.1 e)
-        | inr e ↦ inr (start t o.0 arc.glued.far o.1 e)
-      ]
+      elim o.2 [ inl e ↦ inl (start s o.0 arc.glued.near o.1 e) | inr e ↦ inr (start t o.0 arc.glued.far o.1 e) ]
 
   -- A corner behind a dart of the arc is where one of its sides ends.
   on_end : (c : ℕ) → IsCorner mesh cut c → IsOnArc mesh s t n (mesh.prev c)
@@ -46,10 +43,7 @@ module _ {mesh : HalfEdges} (laws : IsQuadManifold mesh) {cut rest : Cut} (full 
         | inl q ↦ (k, rw q side, here)
         | inr ne ↦ absurd (true≢false (cc (corner.1, here, side.inside k (omega (arith, l, ne)))))
       ] in
-      elim o.2 [
-        | inl e ↦ inl (end s o.0 arc.glued.near o.1 e)
-        | inr e ↦ inr (end t o.0 arc.glued.far o.1 e)
-      ]
+      elim o.2 [ inl e ↦ inl (end s o.0 arc.glued.near o.1 e) | inr e ↦ inr (end t o.0 arc.glued.far o.1 e) ]
 
   -- The corners that stay are the others.
   pub corner_stays : (c : ℕ) → IsCorner mesh cut c → (c ≡ s → ⊥) → (c ≡ t → ⊥) → (IsNextCorner mesh cut s c → ⊥)
@@ -85,11 +79,10 @@ module _ {mesh : HalfEdges} (laws : IsQuadManifold mesh) {cut rest : Cut} (full 
       next k e = (k, rw e side, refl)
 
       off : (k : ℕ) → suc k ≡ m → IsOnArc mesh s t n (mesh.next (easts mesh c k)) → ⊥
-      off k e o = elim (on_start (mesh.next (easts mesh c k))
-          (next_is_corner laws full (next k e)) o) [
-            | inl q ↦ not_s (rw (← q) (next k e))
-            | inr q ↦ not_t (rw (← q) (next k e))
-          ]
+      off k e o = elim (on_start (mesh.next (easts mesh c k)) (next_is_corner laws full (next k e)) o) [
+        | inl q ↦ not_s (rw (← q) (next k e))
+        | inr q ↦ not_t (rw (← q) (next k e))
+      ]
 
   -- The side from p that ends at s goes on along the one from q, which begins where the other side of the arc ends.
   module _ {p q x a b : ℕ} (before : IsWholeSide mesh cut p (suc a)) (meets : s ≡ mesh.next (easts mesh p a))
@@ -145,8 +138,7 @@ module _ {mesh : HalfEdges} (laws : IsQuadManifold mesh) {cut rest : Cut} (full 
 
     -- Those of the near patch are none of the far one.
     foreign : (x : ℕ) → AreInOne mesh cut s x → AreInOne mesh cut t x → ⊥
-    foreign x a b =
-        arc.apart (links_join laws cut s x t a (linked_back laws full t x arc.glued.far.corner.0 b))
+    foreign x a b = arc.apart (links_join laws cut s x t a (linked_back laws full t x arc.glued.far.corner.0 b))
 
     near_in : (x : ℕ) → (x ≡ s) ⊎ ((x ≡ near.second) ⊎ ((x ≡ near.third) ⊎ (x ≡ near.fourth))) → AreInOne mesh cut s x
     near_in x is = around laws full ones.second ones.third ones.fourth x is
@@ -175,11 +167,10 @@ module _ {mesh : HalfEdges} (laws : IsQuadManifold mesh) {cut rest : Cut} (full 
         second_is e = one_next laws full ones.second (subst (λ (x : ℕ). IsNextCorner mesh cut x s) e near_closes)
 
     pub far_third_off : IsOnArc mesh s t n far.third → ⊥
-    far_third_off o =
-        elim (on_start far.third (next_is_corner laws full others.third) o) [
-          | inl e ↦ foreign far.third (near_in far.third (inl e)) (far_in far.third (inr (inr (inl refl))))
-          | inr e ↦ opposite laws full others.second others.third others.fourth e
-        ]
+    far_third_off o = elim (on_start far.third (next_is_corner laws full others.third) o) [
+      | inl e ↦ foreign far.third (near_in far.third (inl e)) (far_in far.third (inr (inr (inl refl))))
+      | inr e ↦ opposite laws full others.second others.third others.fourth e
+    ]
 
     -- The side before s, as it goes on.
     pub near_side : (a b : ℕ) → IsWholeSide mesh cut near.fourth a → IsWholeSide mesh cut far.second b
@@ -191,10 +182,8 @@ module _ {mesh : HalfEdges} (laws : IsQuadManifold mesh) {cut rest : Cut} (full 
         let right = one_size laws full others.third.1 two in
         let sum : suc i + suc j ≡ a + b = omega (arith, left, right) in
         rw (← sum) (
-          grown_side near_closes.1 near_closes.2 others.third.1 others.third.2 others.second near_stays
-              far_third_off,
-          grown_end near_closes.1 near_closes.2 others.third.1 others.third.2 others.second near_stays
-              far_third_off,
+          grown_side near_closes.1 near_closes.2 others.third.1 others.third.2 others.second near_stays far_third_off,
+          grown_end near_closes.1 near_closes.2 others.third.1 others.third.2 others.second near_stays far_third_off,
         )
 
     -- The dart before the arc stands on it.
@@ -260,9 +249,8 @@ module _ {faces : Faces} {marks : List Bool} (rest : List Bool) (cutting : IsCut
   -- No arc has its name any more.
   pub name_gone : {s t n name : ℕ} → IsJoinable mesh (is_on rest) s t n
       → IsNameOf mesh s t n name → name ≢ place.seam.name
-  name_gone {s} {t} {n} {name} arc named e = true≢false
-      (sym (on_cut cutting.laws cutting_after.full arc.glued name named.on)
-      ∙ (ap (is_on rest) e ∙ without.gone place.seam.name is.named.on))
+  name_gone {s} {t} {n} {name} arc named e = true≢false (sym (on_cut cutting.laws cutting_after.full arc.glued name
+      named.on) ∙ (ap (is_on rest) e ∙ without.gone place.seam.name is.named.on))
 
   pub marks_fewer : mark_count rest + 1 ≤ mark_count marks
   marks_fewer = fewer_marks marks rest long less_on place.seam.name (on_cut cutting.laws cutting.full

@@ -1,17 +1,16 @@
 -- What stands in a table in which the lengths of edges were put along paths.
 use Rattle.std.proofs.Common.{rules, ◌≡◌, ◌≢◌, ℕ, ◌<◌, ◌⊎◌, inl, inr, List, length, Some, None, Option, refl, sym, ap}
 use Rattle.std.proofs.Common.{◌∙◌, subst, arith, ◌-◌, Bool, true, false, cond, [], map, replicate, get_or, true≢false}
-use Rattle.std.proofs.Common.{zero, suc, ◌∷◌}
-use Rattle.std.proofs.lemmas.List.{length-set, get_or-set_other, get_or_default, get_or-map, get_or-replicate}
-use Rattle.std.proofs.lemmas.List.{length-map, length-replicate}
-use Rattle.std.proofs.lemmas.List.FromFn.{get_or-map-range_with_len, length-map-range_with_len}
+use Rattle.std.proofs.{Common.zero, Common.suc, Common.◌∷◌, lemmas.List.length-map, lemmas.List.length-replicate}
 use Rattle.std.proofs.{lemmas.Bool.cases_eq, lemmas.Bool.cases_Bool, lemmas.Grind.same_number_lists}
-use Rattle.std.specs.{Prelude.slice_index, List.All, List.fold}
-use Rattle.def_mesh.specs.{Darts.darts, Darts.twin_of, Darts.all_darts, Faces.Faces, HalfEdges.half_edges}
-use Rattle.def_mesh.specs.{HalfEdges.IsQuadManifold}
+use Rattle.std.proofs.lemmas.List.{length-set, get_or-set_other, get_or_default, get_or-map, get_or-replicate}
+use Rattle.std.proofs.lemmas.List.FromFn.{get_or-map-range_with_len, length-map-range_with_len}
+use Rattle.def_mesh.specs.Darts.{darts, twin_of, all_darts}
+use Rattle.def_mesh.specs.{Faces.Faces, HalfEdges.half_edges, HalfEdges.IsQuadManifold}
 use Rattle.qm_metric.specs.Lengths.{with_dart, with_edge, with_twin, with_arcs, with_path}
-use Rattle.{def_cut.specs.FullCut.is_on, def_cut.specs.FullCut.IsFullCut, def_layout.specs.declared.tmesh.TArc.TArc}
 use Rattle.def_layout.specs.Arcs.{dart_at, long_at, path, path_at, AreArcs, LiesAt, Path}
+use Rattle.{std.specs.Prelude.slice_index, std.specs.List.All, std.specs.List.fold, def_cut.specs.FullCut.is_on}
+use Rattle.{def_cut.specs.FullCut.IsFullCut, def_layout.specs.declared.tmesh.TArc.TArc}
 use Rattle.{def_metric.specs.Targets.edge_length, def_text.specs.Types.Positions}
 
 -- The edge of one dart is that of another.
@@ -140,29 +139,25 @@ module _ (faces : Faces) (places : Positions) (laws : IsQuadManifold (half_edges
 
     -- A dart of the cut has its length.
     filled_on : (c : ℕ) → c < darts faces → is_on marks c ≡ true → slice_index filled c ≡ edge_length faces places c
-    filled_on c low is =
-        let (a, place, forward, la, lp, lies) = are.covers c low is in
+    filled_on c low is = let (a, place, forward, la, lp, lies) = are.covers c low is in
         found a place la lp forward lies
       where
         put : (a k : ℕ) → a < length (map path arcs) → k < long_at (map path arcs) a
             → AreOfOne faces (dart_at (map path arcs) a k) c → slice_index filled c ≡ edge_length faces places c
         put a k la lk touches =
             let less : a < length arcs = omega (arith, la, length-map arcs path) in
-            (fold_makes (λ (t : List ℕ) (arc : TArc). with_path faces places t arc.darts.items)
-            (IsTable faces) (Stands faces places c) (replicate (darts faces) 0) arcs a less
-            (λ j arc b l kept. path_table (get_or arcs j arc).darts.items b kept)
-            (λ j arc b l. fold_keeps (with_edge faces places) (Stands faces places c) b (get_or arcs j arc).darts.items
-            (λ k d t low. edge_stays faces places laws t (get_or (get_or arcs j arc).darts.items k d) c
-            (inside j arc l k d low)))
-            (λ arc b.
+            (fold_makes (λ (t : List ℕ) (arc : TArc). with_path faces places t arc.darts.items) (IsTable faces)
+            (Stands faces places c) (replicate (darts faces) 0) arcs a less (λ j arc b l kept. path_table
+            (get_or arcs j arc).darts.items b kept) (λ j arc b l. fold_keeps (with_edge faces places)
+            (Stands faces places c) b (get_or arcs j arc).darts.items (λ k d t low. edge_stays faces places laws t
+            (get_or (get_or arcs j arc).darts.items k d) c (inside j arc l k d low))) (λ arc b.
             let run = (get_or arcs a arc).darts.items in
             let low = subst (λ (p : Path). k < length p.darts) (there a arc less) lk in
             let meets = subst (λ (p : Path). AreOfOne faces (slice_index p.darts k) c) (there a arc less) touches in
             fold_makes (with_edge faces places) (IsTable faces) (Stands faces places c) b run k low
-            (λ j d t l. edge_table faces places laws t (get_or run j d))
-            (λ j d t l. edge_stays faces places laws t (get_or run j d) c (inside a arc less j d l))
-            (λ d t. edge_put faces places laws t (get_or run k d) c (inside a arc less k d low)
-            (subst (λ (e : ℕ). AreOfOne faces e c) (get_or_default run k 0 d low) meets)))
+            (λ j d t l. edge_table faces places laws t (get_or run j d)) (λ j d t l. edge_stays faces places laws t
+            (get_or run j d) c (inside a arc less j d l)) (λ d t. edge_put faces places laws t (get_or run k d) c
+            (inside a arc less k d low) (subst (λ (e : ℕ). AreOfOne faces e c) (get_or_default run k 0 d low) meets)))
             (length-replicate (darts faces) 0)).1
 
         found : (a place : ℕ) → a < length (map path arcs) → place < long_at (map path arcs) a → (forward : Bool)
@@ -173,10 +168,8 @@ module _ (faces : Faces) (places : Positions) (laws : IsQuadManifold (half_edges
 
     -- Another dart has none.
     filled_off : (c : ℕ) → c < darts faces → is_on marks c ≡ false → slice_index filled c ≡ 0
-    filled_off c low off =
-        fold_keeps (λ (t : List ℕ) (arc : TArc). with_path faces places t arc.darts.items)
-        (λ (t : List ℕ). slice_index t c ≡ 0) (replicate (darts faces) 0) arcs
-        (λ a arc b l.
+    filled_off c low off = fold_keeps (λ (t : List ℕ) (arc : TArc). with_path faces places t arc.darts.items)
+        (λ (t : List ℕ). slice_index t c ≡ 0) (replicate (darts faces) 0) arcs (λ a arc b l.
         let run = (get_or arcs a arc).darts.items in
         fold_keeps (with_edge faces places) (λ (t : List ℕ). slice_index t c ≡ 0) b run (λ k d t less kept.
         edge_off faces places laws t (get_or run k d) c (λ touches. true≢false (sym (on a arc k c l less

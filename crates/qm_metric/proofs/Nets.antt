@@ -183,9 +183,8 @@ IsNearNet p settings net = IsNetOf (gluing_of p) (long_at p.arcs) (long_at p.arc
 -- Where the wishes are not too great, they are those of this network with the entries that were found.
 wished_net : (t : TMesh) (f : List ℕ → ℕ) (settings : Settings) → IsSomeLayout (layout_of t) → (net : Network)
     → IsNearNet (layout_of t) settings net → tangle_number net ≤ MAX_TANGLE → (new : Network) (wishes : List ℕ)
-    → 1 ≤ settings.floor → IsWithinBounds net
-    → wishes ≡ map (λ (run : TArc). min (f run.darts.items) (2 ^ 32 - 1)) t.arcs.items
-    → wish_sum (along f) (layout_of t) ≤ MAX_TARGETS → HasWishes net (slice_index wishes) new
+    → 1 ≤ settings.floor → IsWithinBounds net → wishes ≡ map (λ (run : TArc). min (f run.darts.items) (2 ^ 32 - 1))
+    t.arcs.items → wish_sum (along f) (layout_of t) ≤ MAX_TARGETS → HasWishes net (slice_index wishes) new
     → IsNetFor (along f) (layout_of t) settings new
 wished_net t f settings lies net is small new wishes low bounds are few has =
     let p = layout_of t in

@@ -3,23 +3,22 @@ use Rattle.std.proofs.Common.{rules, ℕ, zero, suc, ◌+◌, ◌*◌, ◌/◌, 
 use Rattle.std.proofs.Common.{pos, ◌-ℤ◌, ◌*ℤ◌, sym, ap, ◌∙◌, mul-one}
 use Rattle.std.proofs.{lemmas.Nat.mul-le, Math.Nat.mul-le-mul_left, Math.Nat.mul-le-mul_right}
 use Rattle.std.proofs.{lemmas.Bool.Decides.leb_tells, lemmas.Int.ints, lemmas.List.get_or-map, lemmas.List.length-map}
-use Rattle.def_metric.specs.{Roots.doubled_root, Roots.root_of, Roots.root_within, Roots.IsRoot, Roots.WholeRootLaw}
+use Rattle.def_metric.specs.Roots.{doubled_root, root_of, root_within, IsRoot, WholeRootLaw}
 use Rattle.def_metric.specs.{Fails.AreNear, Starts.times_long, Starts.StartLaw, Targets.wish_sum}
-use Rattle.def_metric.specs.{declared.limits.TheConstants.MAX_TARGETS}
-use Rattle.def_flow.specs.{Admissible.arc_deviation, Admissible.deviation, Admissible.entries, Descent.IsStartOf}
-use Rattle.def_flow.specs.{Network.Network, Network.arc_at, declared.limits.TheConstants.MAX_FLOOR}
+use Rattle.def_flow.specs.Admissible.{arc_deviation, deviation, entries}
+use Rattle.def_flow.specs.{Descent.IsStartOf, Network.Network, Network.arc_at, declared.limits.TheConstants.MAX_FLOOR}
 use Rattle.def_flow.specs.{declared.net.Settings.Settings, declared.net.Weight.Weight}
-use Rattle.def_flow.specs.{declared.net.Weight.TheVariants.Plain, declared.net.Weight.TheVariants.Length}
-use Rattle.def_layout.specs.{Arcs.Path, Arcs.long_at, Surfaces.IsSurface, Gluings.Way, Gluings.south, Gluings.east}
-use Rattle.def_layout.specs.{Gluings.north, Gluings.west, Gluings.Gluing, Lengths.Lengths, Lengths.size, Layouts.Layout}
-use Rattle.def_layout.specs.{Layouts.gluing_of}
-use Rattle.def_layoutnet.specs.{LayoutNet.weight_of, LayoutNetLaws.sum_along}
-use Rattle.def_remesh.specs.{Keeping.IsNetWith, Tasks.given_floors, Tasks.Wish}
+use Rattle.def_flow.specs.declared.net.Weight.TheVariants.{Plain, Length}
+use Rattle.def_layout.specs.{Arcs.Path, Arcs.long_at, Surfaces.IsSurface, Lengths.Lengths, Lengths.size, Layouts.Layout}
+use Rattle.def_layout.specs.Gluings.{Way, south, east, north, west, Gluing}
 use Rattle.sum_laws.proofs.Sums.{count_below_le, count_below_sum, count_below_times, count_below_total}
-use Rattle.sum_laws.proofs.Sums.{total_below_same}
-use Rattle.embedding_laws.proofs.Bounds.{laid_of, lengths_of}
 use Rattle.qm_layoutnet.proofs.{Balance.balance_law, Floors.floor_high, Whole.lengths_few}
-use Rattle.{std.specs.Prelude.unsigned_abs, def_math.specs.Counts.count_below, table_laws.proofs.Ranges.part_low}
+use Rattle.{def_metric.specs.declared.limits.TheConstants.MAX_TARGETS, def_layout.specs.Layouts.gluing_of}
+use Rattle.{def_layoutnet.specs.LayoutNet.weight_of, def_layoutnet.specs.LayoutNetLaws.sum_along}
+use Rattle.{def_remesh.specs.Keeping.IsNetWith, def_remesh.specs.Tasks.given_floors, def_remesh.specs.Tasks.Wish}
+use Rattle.{sum_laws.proofs.Sums.total_below_same, embedding_laws.proofs.Bounds.laid_of}
+use Rattle.{embedding_laws.proofs.Bounds.lengths_of, std.specs.Prelude.unsigned_abs, def_math.specs.Counts.count_below}
+use Rattle.table_laws.proofs.Ranges.{part_low}
 
 -- A number whose square is at most n is at most each root.
 upto : (n r s : ℕ) → r * r ≤ n → n < (s + 1) * (s + 1) → r ≤ s
@@ -75,12 +74,10 @@ module _ (wish : Wish) (layout : Layout) (settings : Settings) (floors : Lengths
 
   -- Opposite sides are equal.
   along : (p : ℕ) (s : Way) → p < l.patches → sum_along l (entries xs) p s ≡ pos (times * size l x p s)
-  along p s low =
-      total_below_same (λ k. entries xs (l.use_at p s k).arc) (λ k. pos (times * x (l.use_at p s k).arc)) (l.many p s)
-      (λ k less. entry (l.use_at p s k).arc (laid.paved.arc_low (record { patch = p; side = s; at = k })
-      (record { patch_low = low; low = less })))
-      ∙ sym (count_below_total (λ k. times * x (l.use_at p s k).arc) (l.many p s))
-      ∙ ap pos (count_below_times times (λ k. x (l.use_at p s k).arc) (l.many p s))
+  along p s low = total_below_same (λ k. entries xs (l.use_at p s k).arc) (λ k. pos (times * x (l.use_at p s k).arc))
+      (l.many p s) (λ k less. entry (l.use_at p s k).arc (laid.paved.arc_low (record { patch = p; side = s; at = k })
+      (record { patch_low = low; low = less }))) ∙ sym (count_below_total (λ k. times * x (l.use_at p s k).arc)
+      (l.many p s)) ∙ ap pos (count_below_times times (λ k. x (l.use_at p s k).arc) (l.many p s))
 
   arc_low : (k : ℕ) → k < length net.arcs → k < length layout.arcs
   arc_low k low = omega (arith, low, is.is.long)
@@ -91,9 +88,8 @@ module _ (wish : Wish) (layout : Layout) (settings : Settings) (floors : Lengths
   far k low =
       let inner = arc_low k low in
       let same : arc_deviation net (arc_at net.arcs k) (entries xs k) ≡ weight_of settings.weight (x k) * unsigned_abs
-      (pos 1000 *ℤ pos (times * x k) -ℤ pos (1 * wish layout k)) =
-      (λ i. is.is.weights k inner i * unsigned_abs (pos ((is.is.q ∙ parts) i) *ℤ entry k inner i -ℤ pos
-      ((is.is.p ∙ unit) i * is.is.olds k inner i))) in
+      (pos 1000 *ℤ pos (times * x k) -ℤ pos (1 * wish layout k)) = (λ i. is.is.weights k inner i * unsigned_abs
+      (pos ((is.is.q ∙ parts) i) *ℤ entry k inner i -ℤ pos ((is.is.p ∙ unit) i * is.is.olds k inner i))) in
       let high : times * x k ≤ 3 * x k = mul-le-mul_right (x k) (above k low).1 in
       let off = unsigned_abs (pos 1000 *ℤ pos (times * x k) -ℤ pos (1 * wish layout k)) in
       let few : off ≤ 3000 * x k + wish layout k = omega (arith, ints, high) in

@@ -98,9 +98,8 @@ weighed_arc_read first a x bs j l = by_right a.right
     )
 
 -- What one more arc puts on both sides of a node.
-pub sides_more : (arcs : List Arc) (xs : List ℕ) (v k : ℕ)
-    → side_so_far arcs xs true v (k + 1) -ℤ side_so_far arcs xs false v (k + 1)
-    ≡ (side_so_far arcs xs true v k -ℤ side_so_far arcs xs false v k) +ℤ
+pub sides_more : (arcs : List Arc) (xs : List ℕ) (v k : ℕ) → side_so_far arcs xs true v (k + 1) -ℤ side_so_far arcs xs
+    false v (k + 1) ≡ (side_so_far arcs xs true v k -ℤ side_so_far arcs xs false v k) +ℤ
     (effect v (slice_index xs k) (arc_at arcs k).left +ℤ effect_right v (slice_index xs k) (arc_at arcs k).right)
 sides_more arcs xs v k = rw (add-one k) (by_right (arc_at arcs k).right)
   where
@@ -205,9 +204,8 @@ balanced_everywhere net within xs end far block v = elim (cases_lt v end) [
 ]
 
 -- Balances are all zero exactly if the block is balanced.
-pub balanced_by_zeros : (arcs : List Arc) (xs : List ℕ) (first : ℕ) (bs : List ℤ)
-    → AreBalances arcs xs first (length arcs) bs → list_all (λ z. int_eq z (pos 0)) bs ≡ true
-    → IsBlockBalanced arcs xs first (first + 2048)
+pub balanced_by_zeros : (arcs : List Arc) (xs : List ℕ) (first : ℕ) (bs : List ℤ) → AreBalances arcs xs first
+    (length arcs) bs → list_all (λ z. int_eq z (pos 0)) bs ≡ true → IsBlockBalanced arcs xs first (first + 2048)
 balanced_by_zeros arcs xs first bs are on v low high =
     let place : first + (v - first) ≡ v = omega arith in
     let inner : v - first < 2048 = omega arith in
@@ -218,9 +216,8 @@ balanced_by_zeros arcs xs first bs are on v low high =
     place in
     omega (arith, ints, zero_there, sums)
 
-pub zeros_by_balanced : (arcs : List Arc) (xs : List ℕ) (first : ℕ) (bs : List ℤ)
-    → AreBalances arcs xs first (length arcs) bs → IsBlockBalanced arcs xs first (first + 2048)
-    → list_all (λ z. int_eq z (pos 0)) bs ≡ true
+pub zeros_by_balanced : (arcs : List Arc) (xs : List ℕ) (first : ℕ) (bs : List ℤ) → AreBalances arcs xs first
+    (length arcs) bs → IsBlockBalanced arcs xs first (first + 2048) → list_all (λ z. int_eq z (pos 0)) bs ≡ true
 zeros_by_balanced arcs xs first bs are balanced = list_all-from_AllPass (λ z. int_eq z (pos 0)) bs each
   where
     each : (j : ℕ) (d : ℤ) → j < length bs → int_eq (get_or bs j d) (pos 0) ≡ true

@@ -3,16 +3,10 @@ use Rattle.std.proofs.Common.{◌≡◌, ℕ, ◌+◌, ◌*◌, ◌^◌, ◌<◌
 use Rattle.std.proofs.Common.{None, ◌∙◌, ap, arith}
 use Rattle.std.proofs.lemmas.List.{length-take-le}
 use Rattle.std.specs.Prelude.{slice_index, slice_index_or, option_to_list}
-use Rattle.def_math.specs.{Counts.count, Counts.count_below, Tables.at_place, Tables.IsRaised, Tables.IsTally}
+use Rattle.def_math.specs.{Counts.count, Counts.count_below, Tables.IsRaised, Tables.IsTally}
 use Rattle.def_flow.specs.{Network.degree, declared.net.Arc.Arc, declared.net.End.End}
-use Rattle.table_laws.proofs.{Ranges.count_take, Tallies.raised_as, Tallies.tally_low, Tallies.tally_more}
+use Rattle.table_laws.proofs.{Ranges.count_take, Tallies.tally_low, Tallies.tally_more}
 use Rattle.{sum_laws.proofs.Sums.count_below_same, sum_laws.proofs.Tests.once_at_most, qm_net.specs.Degrees.ends_at}
-
--- Where one end after the other is counted, all ends of an arc are.
-pub one_end : (a : Arc) (old new : List ℕ) → a.right ≡ None → IsRaised (at_place a.left.node 1) old new
-    → IsRaised (ends_at a) old new
-one_end a old new none raised = raised_as (at_place a.left.node 1) (ends_at a) old new (λ v l. rw none (omega arith))
-    raised
 
 -- An arc has at most two ends at a node.
 pub ends_low : (v : ℕ) (a : Arc) → ends_at a v ≤ 2
@@ -43,12 +37,11 @@ degrees_more arcs d k nodes old new l are raised = tally_more (degree (take k ar
 -- Before the last arc the counts are smaller still.
 pub degrees_few : (arcs : List Arc) (k nodes : ℕ) (degrees : List ℕ) → k ≤ length arcs
     → IsTally (degree (take k arcs)) nodes degrees → (v : ℕ) → slice_index degrees v ≤ 2 * k
-degrees_few arcs k nodes degrees le are =
-    tally_low (degree (take k arcs)) nodes (2 * k) degrees are (λ v l. omega (
-      arith,
-      degree_low (take k arcs) v,
-      length-take-le k arcs,
-    ))
+degrees_few arcs k nodes degrees le are = tally_low (degree (take k arcs)) nodes (2 * k) degrees are (λ v l. omega (
+  arith,
+  degree_low (take k arcs) v,
+  length-take-le k arcs,
+))
 
 -- The squares of the counts of ends.
 pub squares : (nodes : ℕ) (arcs : List Arc) (degrees : List ℕ) → IsTally (degree arcs) nodes degrees

@@ -6,9 +6,8 @@ use Rattle.{std.specs.Prelude.nat_lt, std.specs.Prelude.slice_index, def_math.sp
 use Rattle.{def_math.specs.Runs.run_at, def_remesh.specs.Numberings.AreRunStarts, sum_laws.proofs.Sums.count_below_same}
 
 -- The run that begins at or before a place, and ends behind it, holds it.
-pub spot_between : (f : ℕ → ℕ) (n t k : ℕ) → k < n → (k ≡ 0) ⊎ (count_below f k ≤ t) → (k + 1 ≡ n)
-    ⊎ (t < count_below f (k + 1))
-    → run_at (count_below f) n t ≡ k
+pub spot_between : (f : ℕ → ℕ) (n t k : ℕ) → k < n → (k ≡ 0) ⊎ (count_below f k ≤ t)
+    → (k + 1 ≡ n) ⊎ (t < count_below f (k + 1)) → run_at (count_below f) n t ≡ k
 spot_between f zero t k low from to = absurd (omega arith)
 spot_between f (suc n) t k low from to = elim (cases_eq k n) [
   | inl e ↦ at_last e from
@@ -31,8 +30,7 @@ spot_between f (suc n) t k low from to = elim (cases_eq k n) [
     onward before (inr less) = inr less
 
 -- A place up to the end lies no farther behind the beginning of its run than the run is long.
-pub within_run : (f : ℕ → ℕ) (n t : ℕ) → 0 < n → t ≤ count_below f n
-    → (count_below f (run_at (count_below f) n t) ≤ t)
+pub within_run : (f : ℕ → ℕ) (n t : ℕ) → 0 < n → t ≤ count_below f n → (count_below f (run_at (count_below f) n t) ≤ t)
     × (t - count_below f (run_at (count_below f) n t) ≤ f (run_at (count_below f) n t))
 within_run f n t some le = search (rules, run_to, run_from)
 

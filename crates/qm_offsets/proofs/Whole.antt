@@ -10,13 +10,11 @@ use Rattle.{std.specs.List.All, def_math.specs.Counts.count_below, def_known.spe
 pub use Rattle.embedding_laws.proofs.Bounds.{laid_of, lengths_of, lies}
 
 -- The arcs that sides use.
-pub arcs_low : (layout : Layout) → HasWholeSides (gluing_of layout)
-    → (patch : ℕ) (side : Way) (n : ℕ) (list : List SideArc)
-    → patch < length layout.patches
-    → n ≡ length layout.arcs → list ≡ side_at layout patch side → All (λ (used : SideArc). used.arc < n) list
-arcs_low layout paved patch side n list low long same =
-    subst (λ (us : List SideArc). All (λ (used : SideArc). used.arc < n) us) (sym same)
-    (λ k d less. let arc = paved.arc_low (record { patch = patch; side = side; at = k })
+pub arcs_low : (layout : Layout) → HasWholeSides (gluing_of layout) → (patch : ℕ) (side : Way) (n : ℕ)
+    (list : List SideArc) → patch < length layout.patches → n ≡ length layout.arcs → list ≡ side_at layout patch side
+    → All (λ (used : SideArc). used.arc < n) list
+arcs_low layout paved patch side n list low long same = subst (λ (us : List SideArc). All (λ (used : SideArc). used.arc
+    < n) us) (sym same) (λ k d less. let arc = paved.arc_low (record { patch = patch; side = side; at = k })
     (record { patch_low = low; low = less }) in
     let read = get_or_default (side_at layout patch side) k d (record { arc = 0; forward = true }) less in
     omega (arith, arc, ap (λ (u : SideArc). u.arc) read, long))

@@ -1,17 +1,16 @@
 -- A text that is put item by item and stops at one of them.
 use Rattle.std.proofs.Common.{◌≡◌, ℕ, suc, ◌+◌, ◌<◌, map, arith, List, [], ◌∷◌, ◌++◌, length, take, drop, get_or, sym}
-use Rattle.std.proofs.Common.{◌∙◌, ap, append_assoc, ◌-◌, ◌≤◌, true, slice_index, eqb, inl, inr}
-use Rattle.std.proofs.Common.{length-drop, length-take, Result, Ok, Err}
+use Rattle.std.proofs.Common.{◌∙◌, ap, append_assoc, ◌-◌, ◌≤◌, true, slice_index, eqb, inl, inr, length-drop}
+use Rattle.std.proofs.Common.{length-take, Result, Ok, Err}
+use Rattle.std.proofs.{lemmas.List.FromFn.take-map-range_with_len, Math.Seq.drop-cons, Math.Seq.take-append_seam}
 use Rattle.std.proofs.lemmas.List.{append-nil, take-append-drop, drop-drop, drop_all}
 use Rattle.std.proofs.lemmas.List.FromFn.{get_or-map-range_with_len, length-map-range_with_len, map-range_with_len_more}
-use Rattle.std.proofs.lemmas.List.FromFn.{take-map-range_with_len}
-use Rattle.std.proofs.{Math.Seq.drop-cons, Math.Seq.take-append_seam, lemmas.Grind.flat_map-append}
-use Rattle.std.proofs.{lemmas.Bool.cases_lt, lemmas.Bool.eq-eqb, lemmas.Bool.eqb-true}
-use Rattle.std.specs.{List.flat_map, List.range_with_len, Prelude.OnErr}
+use Rattle.std.proofs.lemmas.Bool.{cases_lt, eq-eqb, eqb-true}
 use Rattle.def_io.specs.{Bytes.Bytes, Bytes.Told, Faults.Rose, Moves.took, Moves.TookPrefix}
-use Rattle.def_output.specs.{Compared.Differs, Buffered.buffered, Buffered.Buffered}
-use Rattle.def_output.specs.{Buffered.BrokeOff, Buffered.PassedOn}
-use Rattle.qm_output.specs.Laws.{broke_later, passed_more}
+use Rattle.def_output.specs.Buffered.{buffered, Buffered, BrokeOff, PassedOn}
+use Rattle.{std.proofs.lemmas.Grind.flat_map-append, std.specs.List.flat_map, std.specs.List.range_with_len}
+use Rattle.{std.specs.Prelude.OnErr, def_output.specs.Compared.Differs, qm_output.specs.Laws.broke_later}
+use Rattle.qm_output.specs.Laws.{passed_more}
 
 -- The texts of items are those up to one, that one's, and those behind it.
 items_apart : {X : Type 0} (f : X → List ℕ) (xs : List X) (i : ℕ) (d : X) → i < length xs
@@ -32,21 +31,18 @@ stops_at_item takes stops later before f xs i d a b c low took stopped =
 -- The same of items that are told by their numbers.
 pub stops_at_number : {T X : Type 0} (takes stops : T → T → List ℕ → Type 0)
     → ((a b c : T) (s t : List ℕ) → takes a b s → stops b c t → stops a c (s ++ t))
-    → ((a b : T) (s t : List ℕ) → stops a b s → stops a b (s ++ t))
-    → (f : X → List ℕ) (item : ℕ → X) (n i : ℕ) (a b c : T) → i < n
-    → takes a b (flat_map f (map item (range_with_len 0 i))) → stops b c (f (item i))
+    → ((a b : T) (s t : List ℕ) → stops a b s → stops a b (s ++ t)) → (f : X → List ℕ) (item : ℕ → X) (n i : ℕ)
+    (a b c : T) → i < n → takes a b (flat_map f (map item (range_with_len 0 i))) → stops b c (f (item i))
     → stops a c (flat_map f (map item (range_with_len 0 n)))
-stops_at_number takes stops later before f item n i a b c low took stopped =
-    stops_at_item takes stops later before f (map item (range_with_len 0 n)) i (item i) a b c
-    (rw (length-map-range_with_len item 0 n) low)
+stops_at_number takes stops later before f item n i a b c low took stopped = stops_at_item takes stops later before f
+    (map item (range_with_len 0 n)) i (item i) a b c (rw (length-map-range_with_len item 0 n) low)
     (rw (take-map-range_with_len item 0 n i (omega (arith, low))) took)
     (rw (get_or-map-range_with_len item 0 n i i (item i) low (omega arith)) stopped)
 
 -- One more of them is put.
 pub takes_number : {T X : Type 0} (takes : T → T → List ℕ → Type 0)
-    → ((a b c : T) (s t : List ℕ) → takes a b s → takes b c t → takes a c (s ++ t))
-    → (f : X → List ℕ) (item : ℕ → X) (i : ℕ) (a b c : T)
-    → takes a b (flat_map f (map item (range_with_len 0 i))) → takes b c (f (item i))
+    → ((a b c : T) (s t : List ℕ) → takes a b s → takes b c t → takes a c (s ++ t)) → (f : X → List ℕ) (item : ℕ → X)
+    (i : ℕ) (a b c : T) → takes a b (flat_map f (map item (range_with_len 0 i))) → takes b c (f (item i))
     → takes a c (flat_map f (map item (range_with_len 0 (i + 1))))
 takes_number takes more f item i a b c took next = rw (
   map-range_with_len_more item 0 i i (omega arith),
@@ -136,15 +132,13 @@ text_prefix before now text none broke =
 
 -- So it did where the text was put whole, and what waited of it was not taken.
 pub rest_prefix : (before mid now : Buffered) (text : Bytes) → before.held ≡ [] → PassedOn before mid text
-    → BrokeOff mid now []
-    → TookPrefix before.taken now.taken text
+    → BrokeOff mid now [] → TookPrefix before.taken now.taken text
 rest_prefix before mid now text none passed broke = rw append-nil at
     (text_prefix before now (text ++ []) none (broke_later before mid now text [] passed broke))
 
 -- Where the text was put whole, and then all that waited was taken, the sink took the text.
 pub text_whole : (before mid now : Buffered) (text : Bytes) → before.held ≡ [] → PassedOn before mid text
-    → PassedOn mid now []
-    → now.held ≡ [] → now.taken ≡ took before.taken text
+    → PassedOn mid now [] → now.held ≡ [] → now.taken ≡ took before.taken text
 text_whole before mid now text none first last empty =
     let all : PassedOn before now (text ++ []) = passed_more before mid now text [] first last in
     let same : text ≡ all.sent = sym (append-nil text) ∙ ap (λ (xs : Bytes). xs ++ (text ++ [])) (sym none) ∙ all.whole

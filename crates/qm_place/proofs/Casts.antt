@@ -75,9 +75,8 @@ blend_micro {s} {t} a b c d s_le t_le a_small b_small c_small d_small =
 
 -- What the calls of `weighed`, `part_of` and `blend` compute.
 pub weighed_is : {a b f g : ℕ} (n : ℤ) {m : ℤ} → f ≡ a → g ≡ b → m ≡ to_z w64 (of_z w64 n) → a ≤ ONE → b ≤ ONE
-    → unsigned_abs n < 2 ^ 52
-    → (to_z w128 (of_z w128 (to_z w128 (f * g) *ℤ to_z w128 (of_z w128 m))) ≡ pos (a * b) *ℤ n)
-    × (unsigned_abs (pos (a * b) *ℤ n) ≤ 2 ^ 116)
+    → unsigned_abs n < 2 ^ 52 → (to_z w128 (of_z w128 (to_z w128 (f * g) *ℤ to_z w128 (of_z w128 m))) ≡ pos (a * b) *ℤ
+    n) × (unsigned_abs (pos (a * b) *ℤ n) ≤ 2 ^ 116)
 weighed_is {a} {b} {f} {g} n {m} f_is g_is m_is a_le b_le small =
     ((λ i. to_z w128 (of_z w128 (weight i *ℤ number i))) ∙ kept (pos (a * b) *ℤ n) (omega (arith, few)), few)
   where
@@ -95,12 +94,11 @@ weighed_is {a} {b} {f} {g} n {m} f_is g_is m_is a_le b_le small =
     number = omega (arith, ints)
 
 pub part_is : (way : ℤ) {q twice one double : ℤ} (some : ℕ) {parts : ℕ} → (some < parts) → parts ≤ ONE
-    → unsigned_abs way < 2 ^ 52
-    → twice ≡ pos (some * 2) *ℤ to_z w64 (of_z w64 way) → one ≡ pos parts → double ≡ pos (2 * parts)
+    → unsigned_abs way < 2 ^ 52 → twice ≡ pos (some * 2) *ℤ to_z w64 (of_z w64 way) → one ≡ pos parts
+    → double ≡ pos (2 * parts)
     → q ≡ int_div_euclid (to_z w128 (of_z w128 (to_z w128 (of_z w128 twice) +ℤ to_z w128 (of_z w128 one))))
-    (to_z w128 (of_z w128 double))
-    → (to_z w64 (of_z w64 (to_z w128 (of_z w128 q))) ≡ int_div_euclid ((pos (2 * some) *ℤ way) +ℤ pos parts)
-    (pos (2 * parts))) × (unsigned_abs q ≤ 2 ^ 52)
+    (to_z w128 (of_z w128 double)) → (to_z w64 (of_z w64 (to_z w128 (of_z w128 q))) ≡ int_div_euclid
+    ((pos (2 * some) *ℤ way) +ℤ pos parts) (pos (2 * parts))) × (unsigned_abs q ≤ 2 ^ 52)
 part_is way {q} {twice} {one} {double} some {parts} less le small twice_is one_is double_is q_is =
     (ap (λ z. to_z w64 (of_z w64 z)) (kept q (omega (arith, few))) ∙ kept_half q (omega (arith, few)) ∙ quotient, few)
   where
@@ -163,9 +161,8 @@ mean_is {s} {t} {a} {b} {c} {d} {wa} {wb} {wc} {wd} are is =
     (pos (2 ^ 64))) ∙ ap (λ z. int_div_euclid z (pos (2 ^ 64))) (kept (((wa +ℤ wb) +ℤ (wc +ℤ wd)) +ℤ pos (2 ^ 63))
     (omega (arith, ints, sum_fits wa wb wc wd are.a_short are.b_short are.c_short are.d_short)))
     ∙ (λ i. int_div_euclid (((term a wa ((ONE - s) * (ONE - t)) are.a_small are.a_is i +ℤ term b wb (s * (ONE - t))
-    are.b_small are.b_is i)
-    +ℤ (term c wc ((ONE - s) * t) are.c_small are.c_is i +ℤ term d wd (s * t) are.d_small are.d_is i)) +ℤ pos (2 ^ 63))
-    (pos (2 ^ 64)))
+    are.b_small are.b_is i) +ℤ (term c wc ((ONE - s) * t) are.c_small are.c_is i +ℤ term d wd (s * t) are.d_small
+    are.d_is i)) +ℤ pos (2 ^ 63)) (pos (2 ^ 64)))
   where
     term : (z w : ℤ) (k : ℕ) → IsMicro z → w ≡ pos k *ℤ to_z w64 (of_z w64 z) → w ≡ pos k *ℤ z
     term z w k small same = same ∙ ap (λ n. pos k *ℤ n) (kept_half z (omega arith))
@@ -214,11 +211,10 @@ module _ (layout : Layout) (shares : Option (List ℕ)) (new : Lengths) where
   -- A vertex inside a patch.
   pub found_in : {v place patch : ℕ} {spot : FaceSpot} → length layout.nodes + before_arc new (length layout.arcs) ≤ v
       → place ≡ v - (length layout.nodes + before_arc new (length layout.arcs))
-      → patch ≡ run_at (before_patch (gluing_of layout) new) (length layout.patches) place
-      → spot ≡ face_spot layout new (spacing_by layout shares new) patch
-      ((place - before_patch (gluing_of layout) new patch) % (wide (gluing_of layout) new patch - 1) + 1)
-      ((place - before_patch (gluing_of layout) new patch) / (wide (gluing_of layout) new patch - 1) + 1)
-      → InFace spot ≡ spot_at layout shares new v
+      → patch ≡ run_at (before_patch (gluing_of layout) new) (length layout.patches) place → spot ≡ face_spot layout new
+      (spacing_by layout shares new) patch ((place - before_patch (gluing_of layout) new patch) %
+      (wide (gluing_of layout) new patch - 1) + 1) ((place - before_patch (gluing_of layout) new patch) /
+      (wide (gluing_of layout) new patch - 1) + 1) → InFace spot ≡ spot_at layout shares new v
   found_in {v} {place} from place_is same spot_is = search rules
 
 -- Edges are divided in few parts.

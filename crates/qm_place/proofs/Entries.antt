@@ -29,10 +29,7 @@ pub record IsOldArc (t : TMesh) (a : ℕ) (arc : TArc) : Type 0 where
 
 pub arc_read : (t : TMesh) {tables : PlaceTables} {a : ℕ} {arc : TArc} → ArePlaced (layout_of t) tables
     → a < length t.arcs.items → arc ≡ get_or t.arcs.items a arc → IsOldArc t a arc
-arc_read t {a} {arc} is low read = record {
-  long = old_read t low read;
-  short = is.arcs a a_low;
-}
+arc_read t {a} {arc} is low read = record { long = old_read t low read; short = is.arcs a a_low }
   where
     a_low : a < length (layout_of t).arcs
     a_low = omega (arith, length-map t.arcs.items path)
@@ -78,9 +75,8 @@ pub cell_read : {t : TMesh} {p : ℕ} {a b d : ℕ} {patch : Patch} → IsOldPat
 cell_read {t} {p} {a} {b} {d} {patch} is a_low b_low read = search (rules, get_or_read)
 
 -- The rim of a patch.
-pub rim_read : (layout : Layout) (tables : PlaceTables) {p : ℕ} {rim : Rim}
-    → length tables.rims.items ≡ length layout.patches
-    → p < length layout.patches → rim ≡ get_or tables.rims.items p rim → rim ≡ rim_at tables.rims.items p
+pub rim_read : (layout : Layout) (tables : PlaceTables) {p : ℕ} {rim : Rim} → length tables.rims.items ≡ length
+    layout.patches → p < length layout.patches → rim ≡ get_or tables.rims.items p rim → rim ≡ rim_at tables.rims.items p
 rim_read layout tables {p} {rim} rimmed low read = search (rules, get_or_read)
 
 pub record IsRimRead (t : TMesh) (tables : PlaceTables) (p : ℕ) (rim : Rim) : Type 0 where

@@ -19,9 +19,6 @@ module _ {layout : Layout} {list : List ℕ} (fine : AreFine layout list) where
   lengths_short arc low =
       omega (arith, term_room (λ a. lengths_in list a - 1) (length layout.arcs) arc (omega (arith, low, fine.long)))
 
-  pub points_short : count_below (λ arc. lengths_in list arc - 1) (length list) < 2 ^ 32
-  points_short = omega (arith, ap (count_below (λ arc. lengths_in list arc - 1)) fine.long)
-
   -- How many points lie in a patch.
   abbrev inner : ℕ → ℕ
   inner p = (wide (gluing_of layout) (lengths_in list) p - 1) * (high (gluing_of layout) (lengths_in list) p - 1)
@@ -61,8 +58,7 @@ pushed_join {a} {b} {c} {n} {f} p q same = record {
     | inr more ↦
         let place : length a + k ≡ length b + (k - n) = omega arith in
         let there : n + (k - n) ≡ k = omega arith in
-        ap (slice_index c) place ∙ q.each _ (omega arith) ∙ same _ (omega arith)
-        ∙ ap f there
+        ap (slice_index c) place ∙ q.each _ (omega arith) ∙ same _ (omega arith) ∙ ap f there
   ];
 }
 
@@ -87,9 +83,8 @@ part_most {k} old {new} le some = search (rules, div_most)
 
 -- Parameters that were put behind others, and stay there.
 pub parameters_in : (layout : Layout) (new : Lengths) (spacing : ArcSpacing) (p : ℕ) (s : Way) {begin : ℕ} {a : List ℕ}
-    {b c : List ℕ}
-    → begin ≡ length a → ArePushed a b (size (gluing_of layout) new p s) (side_parameter layout new spacing p s)
-    → IsKept b c → AreParameters layout new spacing p s begin c
+    {b c : List ℕ} → begin ≡ length a → ArePushed a b (size (gluing_of layout) new p s)
+    (side_parameter layout new spacing p s) → IsKept b c → AreParameters layout new spacing p s begin c
 parameters_in layout new spacing p s {begin} {a} {c} here p_ed kept = search rules
 
 -- Whether a side runs against its parameter.
@@ -103,9 +98,6 @@ module _ (l : Gluing) (old new : Lengths) (spacing : ArcSpacing) (p i : ℕ) (s 
     (o : ℕ) (low : o < new (l.use_at p s i).arc) where
   over : use_over l new p s (reach l new p s i + o) ≡ i
   over = over_is l new (slot p s i) o is low
-
-  rest : reach l new p s i + o - reach l new p s i ≡ o
-  rest = omega arith
 
   abbrev used : SideArc
   used = l.use_at p s i

@@ -121,12 +121,11 @@ arc_parameter layout new shares arc {k} same some less =
 -- Sides are short.
 pub old_few : {layout : Layout} → IsSomeLayout layout → {p : ℕ} (s : Way) → p < length layout.patches
     → size (gluing_of layout) (long_at layout.arcs) p s ≤ 2 ^ 21
-old_few {layout} is {p} s low =
-    omega (
-      arith,
-      side_few (gluing_of layout) (long_at layout.arcs) (laid_of layout is) (lengths_of layout is) p s low,
-      old_faces layout is,
-    )
+old_few {layout} is {p} s low = omega (
+  arith,
+  side_few (gluing_of layout) (long_at layout.arcs) (laid_of layout is) (lengths_of layout is) p s low,
+  old_faces layout is,
+)
 
 -- Arcs are short.
 pub old_short : (layout : Layout) → IsSomeLayout layout → (arc : ℕ) → arc < length layout.arcs
@@ -236,22 +235,15 @@ start_few b o back le few = grind arith
 -- The four sides of a patch.
 pub rim_built : {layout : Layout} {list : List ℕ} (spacing : ArcSpacing) → AreFine layout list → {p : ℕ}
     → p < length layout.patches → {z a b c d : List ℕ} {begin : ℕ} {w h : ℕ}
-    → ArePushed z a (size (gluing_of layout) (lengths_in list) p south)
-    (side_parameter layout (lengths_in list) spacing p south)
-    → ArePushed a b (size (gluing_of layout) (lengths_in list) p east)
-    (side_parameter layout (lengths_in list) spacing p east)
-    → ArePushed b c (size (gluing_of layout) (lengths_in list) p north)
+    → ArePushed z a (size (gluing_of layout) (lengths_in list) p south) (side_parameter layout (lengths_in list) spacing
+    p south) → ArePushed a b (size (gluing_of layout) (lengths_in list) p east) (side_parameter layout (lengths_in list)
+    spacing p east) → ArePushed b c (size (gluing_of layout) (lengths_in list) p north)
     (side_parameter layout (lengths_in list) spacing p north)
-    → ArePushed c d (size (gluing_of layout) (lengths_in list) p west)
-    (side_parameter layout (lengths_in list) spacing p west)
-    → begin ≡ length z → w ≡ length a - begin → h ≡ length b - begin - w
-    → IsRim layout (lengths_in list) spacing p (record { wide = w; high = h; begin = begin }) d
+    → ArePushed c d (size (gluing_of layout) (lengths_in list) p west) (side_parameter layout (lengths_in list) spacing
+    p west) → begin ≡ length z → w ≡ length a - begin → h ≡ length b - begin - w → IsRim layout (lengths_in list)
+    spacing p (record { wide = w; high = h; begin = begin }) d
 rim_built {layout} {list} spacing fine {p} low {z} {a} {b} {c} {d} {begin} {w} {h} first second third fourth begin_is
-    w_is h_is = record {
-      wide = omega arith;
-      high = omega arith;
-      sides = sides;
-    }
+    w_is h_is = record { wide = omega arith; high = omega arith; sides = sides }
   where
     from_c : IsKept c d
     from_c = pushed_kept fourth

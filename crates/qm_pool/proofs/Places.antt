@@ -2,7 +2,7 @@
 use Rattle.std.proofs.{lemmas.Grind.common_steps, Math.ListN.set, lemmas.List.get_or-replicate}
 use Rattle.std.proofs.{lemmas.List.length-replicate, lemmas.List.Sums.sum_by-set, lemmas.List.Folds.sum_by-replicate}
 use Rattle.std.proofs.Common.{rules, ◌≡◌, ℕ, ◌+◌, ◌-◌, ◌<◌, ◌≤◌, ◌^◌, List, length, get_or, cond, count_by, is_some}
-use Rattle.std.proofs.Common.{Option, Some, None, sym, ◌∙◌, ap, subst, replicate, length-set, get_or-set_same, arith}
+use Rattle.std.proofs.Common.{Option, Some, None, replicate, arith}
 use Rattle.std.proofs.lemmas.Option.{slice_get_within, get_or_from_slice_get, slice_get-get_or}
 use Rattle.{std.specs.Prelude.slice_get, qm_pool.specs.Free.AreFree, qm_pool.specs.declared.pool.Node.Node}
 
@@ -49,13 +49,3 @@ fresh_free nodes free room few is size each = search (rules, length-replicate, s
 pub taken_empty : (nodes : List (Option Node)) (free : List ℕ) (left id : ℕ) → AreFree nodes free left → 0 < left
     → id ≡ get_or free (left - 1) 0 → slice_get nodes id ≡ Some None
 taken_empty nodes free left id are some id_is = search (rules, slice_get-get_or)
-
--- A node that was written lives.
-pub written : (nodes new : List (Option Node)) (k : ℕ) (n : Node) (old : Option Node) → slice_get nodes k ≡ Some old
-    → new ≡ set nodes k (Some n) → (x : Node) × (slice_get new k ≡ Some (Some x))
-written nodes new k n old at is =
-    let low : k < length nodes = slice_get_within nodes k old at in
-    let size : length (set nodes k (Some n)) ≡ length nodes = length-set nodes k (Some n) in
-    let found : slice_get (set nodes k (Some n)) k ≡ Some (Some n) = slice_get-get_or (set nodes k (Some n)) k None
-    (omega arith) ∙ ap (λ (o : Option Node). Some o) (get_or-set_same nodes k (Some n) None low) in
-    (n, subst (λ (xs : List (Option Node)). slice_get xs k ≡ Some (Some n)) (sym is) found)

@@ -43,11 +43,9 @@ module _ (layout : Layout) (is : IsSomeLayout layout) where
 
   -- An arc has no dart twice.
   arc_few : (a : ℕ) → a < length layout.arcs → long_at layout.arcs a ≤ darts is.faces
-  arc_few a low =
-      no_more (long_at layout.arcs a) (darts is.faces) (dart_at layout.arcs a) (λ d. d)
+  arc_few a low = no_more (long_at layout.arcs a) (darts is.faces) (dart_at layout.arcs a) (λ d. d)
       (λ i j li lj e. (same_dart (half_edges is.faces) laws (is_on is.marks) cut (is_node is.faces is.marks) nodes
-      layout.arcs is.laid.arcs a a i j low low li lj e).1)
-      (λ k l. (
+      layout.arcs is.laid.arcs a a i j low low li lj e).1) (λ k l. (
         dart_at layout.arcs a k,
         dart_low (half_edges is.faces) laws (is_on is.marks) cut
             (is_node is.faces is.marks) nodes layout.arcs is.laid.arcs a k low l,
@@ -74,8 +72,7 @@ module _ (layout : Layout) (is : IsSomeLayout layout) where
 
   -- A multiple of the old lengths is equal on opposite sides, too.
   pub are_multiples : (by : ℕ) → 0 < by → AreLengths (gluing_of layout) (multiple_of by (long_at layout.arcs))
-  are_multiples by some =
-      (multiple_law is.faces (gluing_of layout) (long_at layout.arcs) (vertex_at layout)
+  are_multiples by some = (multiple_law is.faces (gluing_of layout) (long_at layout.arcs) (vertex_at layout)
       (embedding_law is.faces is.marks layout is.mesh is.quads is.cut is.laid) by some).0
 
 -- Each arc is short.

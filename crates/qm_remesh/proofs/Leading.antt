@@ -1,30 +1,29 @@
 -- What rounds of a layout give: lengths of the layout, certificates that are kept, and one round more.
 use Rattle.std.proofs.Common.{◌≡◌, ℕ, ◌-◌, ◌<◌, ◌≤◌, List, [], ◌∷◌, ◌++◌, length, sym, ◌∙◌, ap, subst, arith, Bool}
-use Rattle.std.proofs.Common.{refl, true, false}
-use Rattle.std.proofs.{lemmas.Int.ints, lemmas.List.get_or_default}
-use Rattle.std.specs.{List.All, Prelude.if◌then◌else◌}
+use Rattle.std.proofs.{Common.refl, Common.true, Common.false, lemmas.Int.ints, lemmas.List.get_or_default}
 use Rattle.def_certtext.specs.declared.certs.Rising.TheVariants.{Rounds, Never, Third}
-use Rattle.def_certtext.specs.{CertLines.alone, CertLines.lists_of, CertLines.risen_by, CertLines.used}
 use Rattle.def_certtext.specs.{declared.certs.Rise.Rise, declared.certs.Round.Round, Settings.AreInRange}
-use Rattle.def_certtext.specs.{declared.certs.Rising.Rising}
+use Rattle.def_certtext.specs.CertLines.{alone, lists_of, risen_by, used}
 use Rattle.def_fit.specs.Aims.{fit_settings, denominator, numerator, AreAimedNear, IsFit, IsFitFail}
 use Rattle.def_fit.specs.{declared.fit.Aim.TheVariants.Scale, declared.fit.Fit.Fit, declared.fit.Aim.Aim}
-use Rattle.def_flow.specs.{Accepted.certificate, Descent.IsSolution, Network.Network, Network.tangle_number}
-use Rattle.def_flow.specs.{Network.IsWithinBounds, declared.cert.Cert.Cert, declared.limits.TheConstants.MAX_FLOOR}
-use Rattle.def_flow.specs.{declared.limits.TheConstants.MAX_TANGLE, declared.net.Settings.Settings}
-use Rattle.def_layout.specs.{Lengths.AreLengths as AreArcLengths, Layouts.Layout, Layouts.gluing_of, Arcs.long_at}
+use Rattle.def_flow.specs.{Accepted.certificate, Descent.IsSolution, declared.cert.Cert.Cert}
+use Rattle.def_flow.specs.Network.{Network, tangle_number, IsWithinBounds}
+use Rattle.def_flow.specs.declared.limits.TheConstants.{MAX_FLOOR, MAX_TANGLE}
 use Rattle.def_layoutnet.specs.{Floors.floor_of, Floors.HasFloors, LayoutNet.IsNetOf, MeshLayouts.IsSomeLayout}
-use Rattle.def_remesh.specs.{Certified.AreKept, Certified.IsCertified, Keeping.IsKept, Keeping.IsNetFor}
-use Rattle.def_remesh.specs.{Keeping.IsNetWith, NewPoints.lengths_in, Refusals.AreTooFine, Refusals.IsLayoutFail}
-use Rattle.def_remesh.specs.{Remeshed.AreCoarse, Remeshed.AreDoubled, Rises.risen_floors, Rises.AreNeeded}
-use Rattle.def_remesh.specs.{Tasks.given_floors, Tasks.Wish, Tasks.old_lengths, declared.tables.Tables.Tables}
-use Rattle.def_remesh.specs.{declared.kept.LayoutFail.LayoutFail}
-use Rattle.qm_layoutnet.proofs.Floors.{floors_even, risen_more}
+use Rattle.def_remesh.specs.{Certified.AreKept, Certified.IsCertified, NewPoints.lengths_in, Refusals.AreTooFine}
+use Rattle.def_remesh.specs.{Refusals.IsLayoutFail, Remeshed.AreCoarse, Remeshed.AreDoubled, Rises.risen_floors}
+use Rattle.def_remesh.specs.{Rises.AreNeeded, declared.tables.Tables.Tables, declared.kept.LayoutFail.LayoutFail}
+use Rattle.def_remesh.specs.Keeping.{IsKept, IsNetFor, IsNetWith}
+use Rattle.def_remesh.specs.Tasks.{given_floors, Wish, old_lengths}
 use Rattle.remesh_laws.proofs.ReadAgain.{behind_more, led_kept, led_more, net_risen, used_behind}
 use Rattle.remesh_laws.proofs.Keeps.{are_lengths, keeps, solved}
-use Rattle.remesh_laws.specs.Keeps.{floors_behind, IsNumbered}
 use Rattle.qm_remesh.specs.Rounds.{room_of, IsFitNet, IsLedBy, greatest_floor}
-use Rattle.{def_math.specs.Counts.count_below, sum_laws.proofs.Sums.count_below_same, def_metric.specs.Fails.AreNear}
+use Rattle.{std.specs.List.All, std.specs.Prelude.if◌then◌else◌, def_certtext.specs.declared.certs.Rising.Rising}
+use Rattle.{def_flow.specs.declared.net.Settings.Settings, qm_layoutnet.proofs.Floors.floors_even}
+use Rattle.{qm_layoutnet.proofs.Floors.risen_more, remesh_laws.specs.Keeps.floors_behind}
+use Rattle.{remesh_laws.specs.Keeps.IsNumbered, def_math.specs.Counts.count_below}
+use Rattle.{sum_laws.proofs.Sums.count_below_same, def_metric.specs.Fails.AreNear}
+use Rattle.def_layout.specs.{Lengths.AreLengths as AreArcLengths, Layouts.Layout, Layouts.gluing_of, Arcs.long_at}
 use Rattle.def_remesh.specs.declared.kept.LayoutFail.TheVariants as layouts
 use Rattle.def_metric.specs.declared.fail.SizeFail.TheVariants as sizes
 
@@ -75,9 +74,8 @@ module _ {layout : Layout} {settings : Settings} {first net next : Network} {rou
   led_on new coarse doubled solves = record {
     solved = solves;
     even = λ even. floors_even net (risen_floors round.rises.items (floor_of net.arcs)) next has (is.even even);
-    led = λ wish for.
-        led_more (IsCertified wish layout settings) layout rounds round (given_floors settings) (is.led wish for)
-        (record {
+    led = λ wish for. led_more (IsCertified wish layout settings) layout rounds round (given_floors settings)
+        (is.led wish for) (record {
           fit = solved layout settings net round.cert (is.behind wish for) is.solved;
           coarse = coarse;
           doubled = doubled;
@@ -107,11 +105,9 @@ module _ {layout : Layout} {settings : Settings} {first net next : Network} {rou
 
       new : room_of next.arcs
           ≡ count_below (λ a. MAX_FLOOR - risen_floors round.rises.items (floor_of net.arcs) a) (length layout.arcs)
-      new =
-          ap (count_below (λ a. MAX_FLOOR - floor_of next.arcs a)) (has.long ∙ long)
-          ∙ count_below_same (λ a. MAX_FLOOR - floor_of next.arcs a)
-          (λ a. MAX_FLOOR - risen_floors round.rises.items (floor_of net.arcs) a) (length layout.arcs)
-          (λ a low. cc (has.arcs a (omega (arith, low, long))))
+      new = ap (count_below (λ a. MAX_FLOOR - floor_of next.arcs a)) (has.long ∙ long)
+          ∙ count_below_same (λ a. MAX_FLOOR - floor_of next.arcs a) (λ a. MAX_FLOOR - risen_floors round.rises.items
+          (floor_of net.arcs) a) (length layout.arcs) (λ a low. cc (has.arcs a (omega (arith, low, long))))
 
 -- The network of a layout is one that certificates are checked by; and how floors rise.
 

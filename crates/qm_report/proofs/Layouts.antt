@@ -45,9 +45,8 @@ pub line_behind : (word ns : List ℕ) (x y z : ℕ) (t0 : List ℕ) {t1 t2 t3 t
     → t2 ≡ t1 ++ numbers_text (x ∷ y ∷ []) → t3 ≡ t2 ++ numbers_text ns → t4 ≡ t3 ++ SPACE ∷ decimal z
     → t5 ≡ t4 ++ LINE_FEED ∷ [] → t5 ≡ t0 ++ numbers_line word (x ∷ y ∷ (ns ++ z ∷ []))
 line_behind word ns x y z t0 {t1} e1 e2 e3 e4 e5 =
-    let all : numbers_text (x ∷ y ∷ (ns ++ z ∷ []))
-    ≡ numbers_text (x ∷ y ∷ []) ++ (numbers_text ns ++ SPACE ∷ decimal z)
-    = flat_map-append (λ n. SPACE ∷ decimal n) (x ∷ y ∷ []) (ns ++ z ∷ [])
+    let all : numbers_text (x ∷ y ∷ (ns ++ z ∷ [])) ≡ numbers_text (x ∷ y ∷ []) ++ (numbers_text ns ++ SPACE ∷ decimal
+    z) = flat_map-append (λ n. SPACE ∷ decimal n) (x ∷ y ∷ []) (ns ++ z ∷ [])
     ∙ ap (λ (text : List ℕ). numbers_text (x ∷ y ∷ []) ++ text) (flat_map-append (λ n. SPACE ∷ decimal n) ns (z ∷ [])
     ∙ ap (λ (text : List ℕ). numbers_text ns ++ text) (append-nil (SPACE ∷ decimal z))) in
     behind t0 (word ++ numbers_text (x ∷ y ∷ (ns ++ z ∷ []))) (LINE_FEED ∷ []) (behind t0 word _ e1

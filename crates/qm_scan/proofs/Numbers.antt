@@ -40,9 +40,6 @@ clamped_more n d clamp = elim (cases_lt n clamp) [ inl less ↦ omega arith | in
 pub number_all : (word : List ℕ) → is_number word ≡ (not (eqb (length word) 0) && list_all is_ascii_digit word)
 number_all word = search rules
 
-ten_power : (i : ℕ) → i ≤ 18 → 10 ^ i ≤ 10 ^ 18
-ten_power i le = pow-le-pow_right {n = 10} (omega arith) {i = i} {j = 18} le
-
 -- At most 18 digits need no clamp, and fewer of them leave room for one more.
 pub short_unclamped : (word : List ℕ) → length word ≤ 18 → cond (is_number word) (Some (number_written word)) None
     ≡ cond (is_number word) (Some (min (number_written word) (2 ^ 64 - 1))) None

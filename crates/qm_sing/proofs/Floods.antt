@@ -2,20 +2,19 @@
 use Rattle.std.proofs.Common.{rules, ◌≡◌, ℕ, zero, suc, ◌+◌, ◌<◌, ◌≤◌, Bool, true, false, cond, [], ◌∷◌, ◌++◌, length}
 use Rattle.std.proofs.Common.{map, ap, ◌∙◌, refl, arith, ◌≢◌, ◌⊎◌, ◌*◌, ◌/◌, eqb, List, get_or, set, Option, Some, None}
 use Rattle.std.proofs.Common.{sym, inl, inr, ◌||◌}
+use Rattle.std.proofs.{lemmas.Bool.or_right, lemmas.Bool.or_cases, lemmas.Option.none-some, lemmas.Option.same_Some}
 use Rattle.std.proofs.lemmas.List.{length-append, get_or-set_same, get_or-set_other, length-set}
 use Rattle.std.proofs.lemmas.List.Sums.{length-filter, count_by-le-length, sum_by-set}
 use Rattle.std.proofs.lemmas.Bool.{cases_Bool, cases_eq, cases_lt, eq-eqb, eqb-true, eqb-false, or_left, false≢true}
-use Rattle.std.proofs.lemmas.Bool.{or_right, or_cases}
-use Rattle.std.proofs.{lemmas.List.FromFn.length-range_with_len, lemmas.List.FromFn.map-range_with_len_more}
-use Rattle.std.proofs.{lemmas.Option.none-some, lemmas.Option.same_Some, lemmas.List.Folds.list_any-append}
+use Rattle.std.proofs.lemmas.List.FromFn.{length-range_with_len, map-range_with_len_more}
 use Rattle.std.specs.List.{filter, range_with_len, list_any, count_by}
 use Rattle.def_mesh.specs.Components.{used_count, share_edge, is_marked, component_of}
 use Rattle.def_mesh.specs.{Faces.Faces, Meshes.IsMesh, Vertices.vertex_count, Darts.is_reverse, Darts.twin_of}
-use Rattle.def_mesh.specs.{Manifold.IsManifold}
 use Rattle.list_laws.proofs.Filters.{filter_range_more, any_in_range, range_any}
-use Rattle.mesh_laws.proofs.{Flood.Shares, Flood.sound, Flood.closed, Flood.own_mark, Flood.share_back}
-use Rattle.mesh_laws.proofs.{Chains.reverse_twin, Chains.twin_reverse, Chains.twin_found, Chains.twin_is}
+use Rattle.mesh_laws.proofs.Flood.{Shares, sound, closed, own_mark, share_back}
+use Rattle.mesh_laws.proofs.Chains.{reverse_twin, twin_reverse, twin_found, twin_is}
 use Rattle.qm_sing.specs.Floods.{IsNumbered, Waits, IsClosed, numbers_with, waiting_with, IsSpread, IsFlood, IsFlooded}
+use Rattle.{std.proofs.lemmas.List.Folds.list_any-append, def_mesh.specs.Manifold.IsManifold}
 use Rattle.qm_sing.specs.declared.flooding.TheConstants.{NONE}
 
 -- At most all.
@@ -81,8 +80,7 @@ fewer numbers g component l is ne = search (rules, sum_by-set)
 pub shared_by : (faces : Faces) (f d e : ℕ) → 4 * f ≤ d → d < 4 * f + 4 → twin_of faces d ≡ Some e
     → share_edge faces f (e / 4) ≡ true
 shared_by faces f d e l h w = any_in_range (λ x. list_any (is_reverse faces x) (range_with_len (4 * (e / 4)) 4)) (4 * f)
-    4 d l h
-    (any_in_range (is_reverse faces d) (4 * (e / 4)) 4 e (omega arith) (omega arith)
+    4 d l h (any_in_range (is_reverse faces d) (4 * (e / 4)) 4 e (omega arith) (omega arith)
     (twin_reverse faces d e (twin_is faces d e w)))
 
 shared_dart : (faces : Faces) → IsManifold faces → (f h : ℕ) → h < length faces → share_edge faces f h ≡ true

@@ -152,8 +152,7 @@ module _ {faces : Faces} (m : IsManifold faces) {d : ℕ} {run at : List ℕ} {l
   before_fresh x y l is fresh = fresh_where y ((leads m).low x y l is) (λ r k lr lk s.
       let next = ap (follower faces) s ∙ on_from m x y l is in
       elim (cases_lt (suc k) (length (nth_run lists r))) [
-        | inl more ↦
-            held r x lr (suc k, more, same_Some _ _ (sym ((found.runs r lr).straight k more) ∙ next)) fresh
+        | inl more ↦ held r x lr (suc k, more, same_Some _ _ (sym ((found.runs r lr).straight k more) ∙ next)) fresh
         | inr last ↦ let e : length (nth_run lists r) - 1 ≡ k = omega arith in
             held r x lr ((found.runs r lr).ends x (rw e next)) fresh
       ])
@@ -214,10 +213,7 @@ module _ {faces : Faces} (m : IsManifold faces) {d first : ℕ} {line : Line} {r
       (back.goes k (omega arith)) (behind_fresh k (omega arith))
 
   ahead_fresh : (k : ℕ) → k ≤ on.last → get_or run_old (onward k) 0 ≡ NONE
-  ahead_fresh zero l = elim back.stops [
-    | inl e ↦ rw e.1 (behind_fresh back.steps (omega arith))
-    | inr e ↦ rw e.0 fresh
-  ]
+  ahead_fresh zero l = elim back.stops [ inl e ↦ rw e.1 (behind_fresh back.steps (omega arith)) | inr e ↦ rw e.0 fresh ]
   ahead_fresh (suc k) l = after_fresh m so.found few _ _ (ahead_low m low back on k (omega arith))
       (on.goes k (omega arith)) (ahead_fresh k (omega arith))
 
@@ -274,9 +270,8 @@ module _ {faces : Faces} (m : IsManifold faces) {d first : ℕ} {line : Line} {r
     few = omega (arith, long, so.few);
     found = record {
       runs = each_more (λ x xs. IsLongestRun faces xs) so.found.runs (longest m low back on);
-      least = λ r k l c h. each_more (λ x xs. is_closed faces xs ≡ true → (j : ℕ) → j < length xs
-          → first_dart xs ≤ get_or xs j 0) (λ x b e j t. so.found.least x j b e t)
-          (λ shut j t. omega (
+      least = λ r k l c h. each_more (λ x xs. is_closed faces xs ≡ true → (j : ℕ) → j < length xs → first_dart xs
+          ≤ get_or xs j 0) (λ x b e j t. so.found.least x j b e t) (λ shut j t. omega (
             arith,
             first_at m low back on,
             closed_at m low back on (sym (closed_is m low back on) ∙ shut),
@@ -287,8 +282,7 @@ module _ {faces : Faces} (m : IsManifold faces) {d first : ℕ} {line : Line} {r
           (λ p t. let (k, h, b) = so.found.below p t in
           rw (old_at p t) (k, h, λ j s. omega (arith, b, list_high j s))) r l q less;
       below = each_more (λ x xs. (k : ℕ) × (k < length xs) × (get_or xs k 0 < d + 1))
-          (λ x b. let (k, h, t) = so.found.below x b in (k, h, omega arith))
-          (let (k, h, t) = d_stands m low back on in
+          (λ x b. let (k, h, t) = so.found.below x b in (k, h, omega arith)) (let (k, h, t) = d_stands m low back on in
           (k, omega (arith, walk_long onward on.last), omega (arith, walk_at onward on.last k h)));
       told = λ r k l h. each_more (λ x xs. (j : ℕ) → j < length xs → (get_or run (get_or xs j 0) 0 ≡ x)
           × (get_or at (get_or xs j 0) 0 ≡ j)) told_old told_new r l k h;

@@ -128,9 +128,8 @@ module _ {faces : Faces} {components : ℕ} {numbers : List ℕ}
   pub numbers_are : numbers ≡ component_numbers faces
   numbers_are =
       let number = λ (f : ℕ). place_among (least_faces faces) (least_face faces f) in
-      ext_get_or 0 numbers (component_numbers faces) (n.long
-      ∙ sym (length-map (all_faces faces) number ∙ length-range_with_len 0 (length faces)))
-      (λ g h. let lg : g < length faces = omega (arith, n.long) in
+      ext_get_or 0 numbers (component_numbers faces) (n.long ∙ sym (length-map (all_faces faces) number
+      ∙ length-range_with_len 0 (length faces))) (λ g h. let lg : g < length faces = omega (arith, n.long) in
       (n.below g lg (n.all g lg (least_low faces g lg))).1
       ∙ sym (get_or-map-range_with_len number 0 (length faces) g g 0 lg (omega arith)))
 

@@ -2,25 +2,24 @@
 use Rattle.std.proofs.Common.{rules, ◌≡◌, ◌⊎◌, ℕ, zero, suc, ◌+◌, ◌/◌, ◌<◌, ◌≤◌, Bool, true, false, cond, eqb, ltb}
 use Rattle.std.proofs.Common.{◌&&◌, List, ◌∷◌, length, get_or, set, Some, is_some, sym, ap, ◌∙◌, refl, inl, inr, arith}
 use Rattle.std.proofs.Common.{not, ◌↔◌, [], ◌||◌}
-use Rattle.std.proofs.lemmas.Bool.{cases_Bool, cases_eq, cases_lt, eq-eqb, eqb-true, Decides.nat_tests, and_parts}
-use Rattle.std.proofs.lemmas.Bool.{and_from, false≢true, false_from_ne_true, true_from_ne_false}
-use Rattle.std.proofs.{lemmas.List.get_or-set_same, lemmas.List.get_or-set_other, lemmas.List.length-set}
-use Rattle.std.proofs.{lemmas.List.FromFn.get_or-map-range_with_len}
+use Rattle.std.proofs.{lemmas.Bool.false_from_ne_true, lemmas.Bool.true_from_ne_false, lemmas.Bool.Decides.nat_tests}
+use Rattle.std.proofs.lemmas.Bool.{cases_Bool, cases_eq, cases_lt, eq-eqb, eqb-true, and_parts, and_from, false≢true}
+use Rattle.std.proofs.lemmas.List.{get_or-set_same, get_or-set_other, length-set}
 use Rattle.std.specs.List.{filter, list_any, list_all, range_with_len}
-use Rattle.{sum_laws.proofs.Tests.same_test, qm_sing.proofs.Floods.shared_by}
 use Rattle.def_mesh.specs.Components.{is_marked, component_of, least_face, least_faces, place_among, component_numbers}
 use Rattle.def_mesh.specs.Components.{vertices_in, is_first, is_seed_in, seeds, is_start}
-use Rattle.def_mesh.specs.{Faces.Faces, Darts.darts, Darts.all_darts, Darts.from_of, Darts.prev_of, Darts.twin_of}
-use Rattle.def_mesh.specs.{Manifold.IsManifold, Vertices.vertex_count, Vertices.fan_of, Vertices.faces_at}
-use Rattle.def_mesh.specs.{Kinds.is_regular, Kinds.kind_of, declared.Kind.Kind, HalfEdges.Turns}
-use Rattle.def_mesh.specs.{HalfEdges.IsQuadManifold, HalfEdges.half_edges}
+use Rattle.def_mesh.specs.{Faces.Faces, Manifold.IsManifold, Kinds.is_regular, Kinds.kind_of, declared.Kind.Kind}
+use Rattle.def_mesh.specs.Darts.{darts, all_darts, from_of, prev_of, twin_of}
+use Rattle.def_mesh.specs.Vertices.{vertex_count, fan_of, faces_at}
+use Rattle.def_mesh.specs.HalfEdges.{Turns, IsQuadManifold, half_edges}
 use Rattle.list_laws.proofs.Filters.{any_in_range, range_any, last_or}
 use Rattle.mesh_laws.proofs.Flood.{closed, own_mark, same_component, least_low, least_marked, least_same, least_again}
-use Rattle.mesh_laws.proofs.Flood.{all_below}
 use Rattle.mesh_laws.proofs.Chains.{next_face, is_fan, manifold_law}
 use Rattle.qm_sing.proofs.Numberings.{regular_is, singular_is, reflex_is, place_all, place_less}
-use Rattle.qm_sing.specs.{Rings.number_of, Rings.is_seed, Rings.is_regular_kind, Rings.is_singular_kind}
-use Rattle.qm_sing.specs.{Rings.is_reflex_kind, Rings.AreRings, Rings.AreSeedMarks, declared.flooding.TheConstants.NONE}
+use Rattle.qm_sing.specs.Rings.{number_of, is_seed, is_regular_kind, is_singular_kind, is_reflex_kind, AreRings}
+use Rattle.qm_sing.specs.{Rings.AreSeedMarks, declared.flooding.TheConstants.NONE}
+use Rattle.{std.proofs.lemmas.List.FromFn.get_or-map-range_with_len, sum_laws.proofs.Tests.same_test}
+use Rattle.{qm_sing.proofs.Floods.shared_by, mesh_laws.proofs.Flood.all_below}
 
 -- The first of a filtered range passes, and none before it does.
 first_is : (q : ℕ → Bool) (v a n : ℕ) → is_first v (filter q (range_with_len a n)) ≡ true
@@ -187,8 +186,7 @@ module _ {faces : Faces} (m : IsManifold faces) where
       ≡ is_seed faces (from_of faces d)
   seed_test {regular} {least} r d few ld =
       let c = number_of faces d in
-      same_test _ _
-      (λ t. let p = and_parts (get_or regular c false) _ t in
+      same_test _ _ (λ t. let p = and_parts (get_or regular c false) _ t in
       (seed_is (from_of faces d)).1 (
         d,
         ld,
@@ -231,9 +229,8 @@ module _ {faces : Faces} (m : IsManifold faces) {d : ℕ} (ld : d < darts faces)
   low_l : c < length least
   low_l = omega (arith, number_low m d ld, r.least_long)
 
-  on : (b : Bool) → is_regular faces v ≡ b → (e : ℕ) → e < d + 1
-      → get_or (cond b regular (set regular c false)) (number_of faces e) false ≡ true
-      → is_regular faces (from_of faces e) ≡ true
+  on : (b : Bool) → is_regular faces v ≡ b → (e : ℕ) → e < d + 1 → get_or (cond b regular (set regular c false))
+      (number_of faces e) false ≡ true → is_regular faces (from_of faces e) ≡ true
   on b is e l t =
       let place = cases_eq (number_of faces e) c in
       let same = get_or-set_same regular c false false low_r in
@@ -319,16 +316,15 @@ pub start_told : (faces : Faces) {d v : ℕ} {kind : Kind} {twin mark told : Boo
     → kind ≡ kind_of faces v → twin ≡ is_some (twin_of faces d) → mark ≡ is_seed faces v → v < vertex_count faces
     → d < darts faces → told ≡ (is_singular_kind kind || (twin && (is_reflex_kind kind || mark)))
     → told ≡ is_start faces (seeds faces) d
-start_told faces {d} {v} is_v is_kind is_twin is_mark low ld is =
-    is ∙ rw (
-      is_kind,
-      singular_is faces v,
-      is_twin,
-      is_mark,
-      is_v,
-      reflex_is faces (from_of faces d) used,
-      listed (from_of faces d) (rw is_v at low),
-    ) refl
+start_told faces {d} {v} is_v is_kind is_twin is_mark low ld is = is ∙ rw (
+  is_kind,
+  singular_is faces v,
+  is_twin,
+  is_mark,
+  is_v,
+  reflex_is faces (from_of faces d) used,
+  listed (from_of faces d) (rw is_v at low),
+) refl
   where
     listed : (u : ℕ) → u < vertex_count faces → is_seed faces u ≡ list_any (λ x. eqb x u) (seeds faces)
     listed u l = let some = any_is (λ x. eqb x u) (is_seed faces) (vertex_count faces) in same_test _ _

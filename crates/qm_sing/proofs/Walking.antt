@@ -107,9 +107,8 @@ module _ {step : ℕ → Option ℕ} {n : ℕ} (one : IsStep step n) (d : ℕ) (
 
 -- One dart more is told.
 told_more : (walk : ℕ → ℕ) (many r : ℕ) (run_old run at_old at : List ℕ) → walk many < length run
-    → walk many < length at → ((k : ℕ) → k < many → walk k ≢ walk many)
-    → AreTold walk many r run_old run at_old at → AreTold walk (suc many) r run_old (set run (walk many) r) at_old
-    (set at (walk many) many)
+    → walk many < length at → ((k : ℕ) → k < many → walk k ≢ walk many) → AreTold walk many r run_old run at_old at
+    → AreTold walk (suc many) r run_old (set run (walk many) r) at_old (set at (walk many) many)
 told_more walk many r run_old run at_old at low_run low_at differ old = record {
   told = λ k l. elim (cases_eq k many) [
     | inl s ↦ rw s (get_or-set_same run (walk many) r 0 low_run, get_or-set_same at (walk many) many 0 low_at)

@@ -29,25 +29,21 @@ named_sets g d sum said i low =
 
 -- The same of the entries as they were read, and of as many sets.
 pub named_read : (g : WeightedGraph) (d : DualLists) (sum : ℤ) (sets : ℕ) (up : List ℕ) → verdict g d ≡ Yes sum
-    → sets ≡ length d.z → up ≡ d.up
-    → AreNamed sets up
+    → sets ≡ length d.z → up ≡ d.up → AreNamed sets up
 named_read g d sum sets up said many same = rw (many, same) (named_sets g d sum said)
 
 -- What the costs of two matchings tell of the list.
 
 -- A list is in its own box.
 pub own_inside : (net : Network) (step s : ℕ) (xs ls cs : List ℕ) → length xs ≡ length net.arcs → s ≡ step
-    → ls ≡ lows net step xs
-    → cs ≡ caps net step xs → IsInBox s ls cs xs
-own_inside net step s xs ls cs count steps low cap =
-    rw (steps, low, cap) (raised_in_box step net.arcs xs (arcwise (down step) net.arcs xs) xs count
-    (own_box step net.arcs xs count))
+    → ls ≡ lows net step xs → cs ≡ caps net step xs → IsInBox s ls cs xs
+own_inside net step s xs ls cs count steps low cap = rw (steps, low, cap) (raised_in_box step net.arcs xs
+    (arcwise (down step) net.arcs xs) xs count (own_box step net.arcs xs count))
 
 -- Where the found matching costs less than that of the list, its list is better.
 pub better : (net : Network) (xs ys : List ℕ) (low : ℕ) (found known : ℤ) → length ys ≡ length net.arcs
-    → IsAdmissible net (entries ys) → found <ℤ known
-    → known ≡ pos (deviation net (entries xs)) -ℤ pos low → (pos (deviation net (entries ys)) -ℤ pos low) ≤ℤ found
-    → IsBetter net xs ys
+    → IsAdmissible net (entries ys) → found <ℤ known → known ≡ pos (deviation net (entries xs)) -ℤ pos low
+    → (pos (deviation net (entries ys)) -ℤ pos low) ≤ℤ found → IsBetter net xs ys
 better net xs ys low found known count admissible less of_list of_found =
     record { count = count; admissible = admissible; less = omega (arith, ints, less, of_list, of_found) }
 
@@ -60,9 +56,8 @@ pub sums_meet : (net : Network) (step : ℕ) (xs : List ℕ) (g : WeightedGraph)
 sums_meet net step xs g d m known count is lawful perfect of_list says no_less =
     let no_more : (pos 2 *ℤ matching_cost g m) ≤ℤ (pos 2 *ℤ matching_cost g known) =
     yes_bounds g d (verdict g d) lawful refl (pos 2 *ℤ matching_cost g m) says known perfect in
-    let on : on_cost net step xs ≡ pos (deviation net (entries xs)) -ℤ pos
-    (deviation net (entries (lows net step xs))) =
-    box_deviation net step xs (arcwise (down step) net.arcs xs) xs count (own_box step net.arcs xs count) in
+    let on : on_cost net step xs ≡ pos (deviation net (entries xs)) -ℤ pos (deviation net (entries (lows net step xs)))
+    = box_deviation net step xs (arcwise (down step) net.arcs xs) xs count (own_box step net.arcs xs count) in
     let same : pos 2 *ℤ matching_cost g m ≡ pos 2 *ℤ on_cost net step xs =
     omega (arith, ints, no_more, no_less, of_list, on) in
     ap (λ h. verdict h d) (sym is) ∙ (says ∙ ap Yes same)

@@ -2,20 +2,19 @@
 use Rattle.std.proofs.Common.{◌≡◌, ℕ, suc, ◌+◌, ◌*◌, ◌^◌, ◌<◌, ◌≤◌, ◌↔◌, true, false, not, List, length, true≢false}
 use Rattle.std.proofs.Common.{arith, pos, ◌-ℤ◌, ◌*ℤ◌, mul-add, mul_comm, mul-one, inl, inr, sym, ◌∙◌, ap, subst, None}
 use Rattle.std.proofs.Common.{zero, ◌/◌, ◌%◌, ◌&&◌, Bool, cond, mul_assoc, ◌⊎◌, leb-true, nat_le, max, [], ◌∷◌, ℤ, ◌≤ℤ◌}
-use Rattle.std.proofs.Common.{refl, add-mul}
-use Rattle.std.proofs.{lemmas.List.get_or_default, lemmas.List.length-map, lemmas.List.Sums.AllPass-from_list_all}
-use Rattle.std.proofs.{lemmas.List.Sums.list_all-from_AllPass, Math.Nat.mul-le-mul_left, Math.Nat.mul-le-mul_right}
-use Rattle.std.proofs.{Math.Nat.mul-le-mul, lemmas.Int.ints, lemmas.Bool.cases_lt, lemmas.Bool.and_parts}
+use Rattle.std.proofs.{Common.refl, Common.add-mul, lemmas.List.get_or_default, lemmas.List.length-map, lemmas.Int.ints}
+use Rattle.std.proofs.lemmas.List.Sums.{AllPass-from_list_all, list_all-from_AllPass}
+use Rattle.std.proofs.Math.Nat.{mul-le-mul_left, mul-le-mul_right, mul-le-mul}
 use Rattle.std.specs.{Prelude.slice_index, Prelude.unsigned_abs, Prelude.int_lt, List.list_all}
 use Rattle.def_flow.specs.Network.{Network, IsWithinBounds, arc_at, is_bounded, ends}
 use Rattle.def_flow.specs.Admissible.{AreNetLengths, IsAdmissible, arc_deviation, deviation, entries, IsBalanced}
 use Rattle.def_flow.specs.Admissible.{IsEven, is_on_side, side_sum}
-use Rattle.def_flow.specs.{Descent.IsStartOf, Descent.greatest_floor, Descent.times_old, declared.net.Arc.Arc}
-use Rattle.def_flow.specs.{declared.net.End.End}
+use Rattle.def_flow.specs.Descent.{IsStartOf, greatest_floor, times_old}
 use Rattle.def_math.specs.{Counts.count, Counts.count_below, Sums.total, Sums.total_below}
 use Rattle.sum_laws.proofs.Sums.{count_below_prefix, count_below_le, count_below_times, times_sum, total_below_same}
-use Rattle.sum_laws.proofs.Sums.{total_same}
-use Rattle.{table_laws.proofs.Ranges.part_low, qm_net.proofs.Within.arc_within, qm_solve.specs.Rounds.is_near_arc}
+use Rattle.{std.proofs.lemmas.Bool.cases_lt, std.proofs.lemmas.Bool.and_parts, def_flow.specs.declared.net.Arc.Arc}
+use Rattle.{def_flow.specs.declared.net.End.End, sum_laws.proofs.Sums.total_same, table_laws.proofs.Ranges.part_low}
+use Rattle.{qm_net.proofs.Within.arc_within, qm_solve.specs.Rounds.is_near_arc}
 
 -- What a factor of one or more leaves.
 factor : (w d : ℕ) → 1 ≤ w → d ≤ w * d
@@ -41,10 +40,7 @@ lengths_near net start xs bounds from count nearer = record { count = count; sma
         let inner : k < length net.arcs = omega (arith, count) in
         let far : ℕ = unsigned_abs (pos net.q *ℤ pos (slice_index xs k) -ℤ pos (net.p * a.old)) in
         let part : a.weight * far ≤ deviation net (entries xs) =
-        omega (
-          arith,
-          part_low (λ j. arc_deviation net (arc_at net.arcs j) (entries xs j)) k (length net.arcs) inner,
-        ) in
+        omega (arith, part_low (λ j. arc_deviation net (arc_at net.arcs j) (entries xs j)) k (length net.arcs) inner) in
         short net.q net.p a.old (slice_index xs k) (deviation net (entries start)) (10 ^ 12) bounds.q_low
         (omega (arith, factor a.weight far (arc_within bounds inner).weight_low, part, nearer)) (from.near k inner)
 
@@ -139,13 +135,12 @@ apart q p c old below above =
 -- The sum of the deviations of a multiple.
 far_sum : (net : Network) (c : ℕ) → IsWithinBounds net → net.p ≤ net.q * c + net.q → net.q * c ≤ net.p + 3 * net.q
     → deviation net (entries (times_old c net.arcs)) ≤ 1000 * (3 * net.q) * count (λ a. a.old) net.arcs
-far_sum net c bounds below above =
-    omega (
-      arith,
-      count_below_le _ (λ k. 1000 * (3 * net.q) * (arc_at net.arcs k).old) (length net.arcs) each,
-      count_below_times (1000 * (3 * net.q)) (λ k. (arc_at net.arcs k).old) (length net.arcs),
-      ap (λ n. 1000 * (3 * net.q) * n) (old_sum net.arcs),
-    )
+far_sum net c bounds below above = omega (
+  arith,
+  count_below_le _ (λ k. 1000 * (3 * net.q) * (arc_at net.arcs k).old) (length net.arcs) each,
+  count_below_times (1000 * (3 * net.q)) (λ k. (arc_at net.arcs k).old) (length net.arcs),
+  ap (λ n. 1000 * (3 * net.q) * n) (old_sum net.arcs),
+)
   where
     each : (k : ℕ) → k < length net.arcs → arc_deviation net (arc_at net.arcs k) (entries (times_old c net.arcs) k)
         ≤ 1000 * (3 * net.q) * (arc_at net.arcs k).old
@@ -208,9 +203,8 @@ greatest_low nodes (a ∷ arcs) on =
     omega (arith, floor, greatest_low nodes arcs both.1)
 
 -- The greater of the greatest floor and the whole part of the scale is such a number.
-pub even_start : (net : Network) (c : ℕ) → IsWithinBounds net → IsEven net
-    → c ≡ max (greatest_floor net.arcs) (net.p / net.q)
-    → IsStartOf net (times_old c net.arcs)
+pub even_start : (net : Network) (c : ℕ) → IsWithinBounds net → IsEven net → c ≡ max (greatest_floor net.arcs)
+    (net.p / net.q) → IsStartOf net (times_old c net.arcs)
 even_start net c bounds even is =
     multiple_starts net c bounds even (λ k l. omega (arith, is, greatest_high net.arcs k l)) (omega (
       arith,

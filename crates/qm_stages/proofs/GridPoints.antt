@@ -1,12 +1,11 @@
 -- Grid points are points.
 use Rattle.std.proofs.Common.{◌≡◌, ℕ, ◌+◌, ◌-◌, ◌<◌, ◌≤◌, inl, inr, subst, arith}
-use Rattle.std.proofs.lemmas.Bool.{cases_eq}
-use Rattle.def_layout.specs.{Cells.dart, Cells.CellDart, Surfaces.IsSurface, Gluings.south, Gluings.east, Gluings.north}
-use Rattle.def_layout.specs.{Gluings.west, Gluings.Gluing, Lengths.Lengths, Lengths.wide, Lengths.high}
-use Rattle.def_layout.specs.{Lengths.AreLengths}
+use Rattle.def_layout.specs.Gluings.{south, east, north, west, Gluing}
+use Rattle.def_layout.specs.Lengths.{Lengths, wide, high, AreLengths}
 use Rattle.def_written.specs.{NewFaces.dart_start, Numbers.vertex_number, Numbers.vertices, Points.point}
-use Rattle.def_written.specs.{Points.IsPoint}
 use Rattle.written_laws.proofs.{Borders.from_is, Rims.high_some, Rims.wide_some, EdgeNumbers.number_low}
+use Rattle.{std.proofs.lemmas.Bool.cases_eq, def_layout.specs.Cells.dart, def_layout.specs.Cells.CellDart}
+use Rattle.{def_layout.specs.Surfaces.IsSurface, def_written.specs.Points.IsPoint}
 
 module _ (l : Gluing) (x : Lengths) (laid : IsSurface l) (len : AreLengths l x) where
   -- A grid point is where a dart of a cell begins.

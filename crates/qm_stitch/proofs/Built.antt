@@ -140,9 +140,8 @@ lines_both l x true p arc doubled = (
 )
 
 -- One patch more.
-both_more : {P : Bool → ℕ → Type 0} (n : ℕ)
-    → ((((p : ℕ) × (u : Bool) × (p < n) × P u p) ⊎ P false n) ⊎ P true n)
-    ↔ ((p : ℕ) × (u : Bool) × (p < n + 1) × P u p)
+both_more : {P : Bool → ℕ → Type 0} (n : ℕ) → ((((p : ℕ) × (u : Bool) × (p < n) × P u p) ⊎ P false n) ⊎ P true n) ↔
+    ((p : ℕ) × (u : Bool) × (p < n + 1) × P u p)
 both_more n = grind arith
 
 pub tight_more : (l : Gluing) (x : Lengths) (p arc : ℕ)

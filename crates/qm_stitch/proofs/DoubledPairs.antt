@@ -1,21 +1,20 @@
 -- What is told is what was told before, and more.
 use Rattle.std.proofs.Common.{◌⊎◌, ◌↔◌, ℕ, ◌+◌, ◌<◌, inl, inr, subst, arith, ◌≡◌, ◌≢◌, ◌*◌, ◌/◌, ◌%◌, ◌^◌, ◌≤◌, List}
 use Rattle.std.proofs.Common.{Bool, true, false, length, get_or, refl, sym, ◌∙◌, ap}
-use Rattle.std.proofs.{lemmas.Bool.cases_lt, lemmas.List.get_or-map, lemmas.List.get_or_default, lemmas.List.length-map}
-use Rattle.std.specs.{List.Contains, Coded.×_prop, Coded.le_prop}
-use mathlib.Core.{HLevel.⊥_prop, Logic.∥∥₁_elim}
-use Rattle.def_layout.specs.{Gluings.Way, Gluings.east, Gluings.north, Gluings.Gluing, Surfaces.IsSurface}
-use Rattle.def_layout.specs.{Lengths.Lengths, Lengths.AreLengths, Layouts.Layout, Layouts.gluing_of}
+use Rattle.std.proofs.lemmas.List.{get_or-map, get_or_default, length-map}
+use Rattle.def_layout.specs.Gluings.{Way, east, north, Gluing}
+use Rattle.def_layout.specs.{Surfaces.IsSurface, Lengths.Lengths, Lengths.AreLengths, Layouts.Layout, Layouts.gluing_of}
 use Rattle.def_remesh.specs.{NewPoints.lengths_in, declared.tables.Tables.Tables}
 use Rattle.def_written.specs.Edges.{Edge, on_arc, flat, steep, IsEdge, edge_start, edge_end, HasEnds, IsDoubledAt}
-use Rattle.def_written.specs.Edges.{IsUndoubled, IsFirstDoubled}
-use Rattle.def_written.specs.{Points.inside, Numbers.vertex_number}
+use Rattle.def_written.specs.{Edges.IsUndoubled, Edges.IsFirstDoubled, Points.inside, Numbers.vertex_number}
 use Rattle.written_laws.proofs.Borders.{spoke, tip, tip_column, tip_row, tip_low, one_way, hub_edge, loop_at}
 use Rattle.written_laws.proofs.Borders.{point_sort, spoke_joins, Inner, Joins}
 use Rattle.written_laws.proofs.{Rims.point_inside, EdgeNumbers.number_low, EdgeNumbers.number_same, Courses.edge_points}
-use Rattle.qm_stitch.specs.{Rims.key_of, Rims.keys_of, Rims.pair_key, Rims.rim_edges, Rims.IsLeastRepeat, Rims.IsRepeat}
-use Rattle.qm_stitch.specs.{Numbered.AreTables}
+use Rattle.qm_stitch.specs.Rims.{key_of, keys_of, pair_key, rim_edges, IsLeastRepeat, IsRepeat}
 use Rattle.qm_stitch.proofs.RimEdges.{all_edges, deep_or_listed, fresh_rim, IsDeep}
+use Rattle.{std.proofs.lemmas.Bool.cases_lt, std.specs.List.Contains, std.specs.Coded.×_prop, std.specs.Coded.le_prop}
+use Rattle.qm_stitch.specs.Numbered.{AreTables}
+use mathlib.Core.{HLevel.⊥_prop, Logic.∥∥₁_elim}
 
 -- No more is; there was none before; the same is said in other words; more is told, and more again; what a turn adds.
 pub told_none : {A P : Type 0} → ¬ P → A ↔ (A ⊎ P)

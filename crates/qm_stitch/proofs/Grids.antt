@@ -1,30 +1,29 @@
 -- The first remedy of each pair in a list in order is the cheapest, and marks of the arcs of these.
 use Rattle.std.proofs.Common.{rules, ◌≡◌, ◌≢◌, ◌⊎◌, ℕ, zero, suc, ◌+◌, ◌-◌, ◌<◌, ◌≤◌, Bool, false, List, length, get_or}
 use Rattle.std.proofs.Common.{refl, sym, ◌∙◌, ap, subst, inl, inr, arith, ◌*◌, ◌/◌, ◌%◌, ◌^◌, []}
-use Rattle.std.proofs.lemmas.Bool.{cases_eq, cases_lt, false≢true, Decides.nat_tests}
-use Rattle.std.proofs.lemmas.{List.get_or_default, List.get_or_read, List.length-map}
-use Rattle.std.proofs.{lemmas.List.Elements.Contains-get_or, lemmas.List.Sorted.Contains-permutation}
-use Rattle.std.proofs.{lemmas.List.Sorted.IsPermutation-sym, Math.Nat.mul_comm}
+use Rattle.std.proofs.{lemmas.Bool.Decides.nat_tests, lemmas.List.Elements.Contains-get_or}
+use Rattle.std.proofs.{lemmas.List.Sorted.Contains-permutation, lemmas.List.Sorted.IsPermutation-sym, Math.Nat.mul_comm}
+use Rattle.std.proofs.lemmas.Bool.{cases_eq, cases_lt, false≢true}
+use Rattle.std.proofs.lemmas.List.{get_or_default, get_or_read, length-map}
 use Rattle.std.specs.{List.Sorted.IsPermutation, Prelude.◌≤ℤ◌, Prelude.slice_index, List.All}
-use Rattle.def_layout.specs.{Layouts.Layout, Layouts.gluing_of, Layouts.way_number, Layouts.side_at}
-use Rattle.def_layout.specs.{declared.tmesh.SideArc.SideArc, Gluings.Way, Gluings.east, Gluings.north, Gluings.west}
-use Rattle.def_layout.specs.{Gluings.Gluing, Lengths.Lengths, Lengths.size, Lengths.wide, Lengths.high}
-use Rattle.def_layout.specs.{Layouts.layout_of, Arcs.path, declared.tmesh.TMesh.TMesh, Surfaces.IsSurface}
+use Rattle.def_layout.specs.Layouts.{Layout, gluing_of, way_number, side_at, layout_of}
+use Rattle.def_layout.specs.{declared.tmesh.SideArc.SideArc, Arcs.path, declared.tmesh.TMesh.TMesh, Surfaces.IsSurface}
+use Rattle.def_layout.specs.Gluings.{Way, east, north, west, Gluing}
+use Rattle.def_layout.specs.Lengths.{Lengths, size, wide, high}
 use Rattle.qm_stitch.specs.Remedies.{remedy_at, AreInOrder, AreMarksOf, IsCheapestIn, IsFirstUpto}
-use Rattle.qm_stitch.specs.{Tight.AddsMarks, declared.remedy.Remedy.Remedy, Numbered.AreTables, Sizes.long_by}
-use Rattle.qm_stitch.specs.{Sizes.table_in, Sizes.point_on}
-use Rattle.{def_cut.specs.Grids.rectangle, def_math.specs.Counts.count_below, def_math.specs.Runs.run_at}
+use Rattle.qm_stitch.specs.{Tight.AddsMarks, declared.remedy.Remedy.Remedy, Numbered.AreTables}
+use Rattle.qm_stitch.specs.Sizes.{long_by, table_in, point_on}
 use Rattle.def_written.specs.Points.{along, inside, arc_point, use_point, side_point, point, IsPoint}
-use Rattle.def_written.specs.Numbers.{vertices}
-use Rattle.def_written.specs.{Numbers.before_arc, Numbers.before_patch, Numbers.vertex_number as point_name}
-use Rattle.def_written.specs.{NewFaces.cells_before, NewFaces.face_count, NewFaces.patch_of, NewFaces.cell_in}
+use Rattle.def_written.specs.NewFaces.{cells_before, face_count, patch_of, cell_in}
 use Rattle.def_remesh.specs.Numberings.{sizes_on, tables_of, used_at, AreRunStarts, IsNumbering}
 use Rattle.def_remesh.specs.{NewPoints.lengths_in, declared.tables.RunStarts.RunStarts, declared.tables.Tables.Tables}
 use Rattle.written_laws.proofs.{Spacings.run_here, Spacings.run_low, EdgeNumbers.in_rows, EdgeNumbers.number_low}
-use Rattle.written_laws.proofs.{Sides.arc_inner}
-use Rattle.qm_offsets.{specs.Fours.arcs_on, proofs.Spots.last_is, proofs.Spots.within_run, proofs.Whole.arcs_low}
-use Rattle.qm_offsets.{proofs.Whole.read_size, proofs.Whole.read_used, proofs.Whole.sides_of, proofs.Whole.way_for}
+use Rattle.qm_offsets.proofs.Whole.{arcs_low, read_size, read_used, sides_of, way_for}
 use Rattle.embedding_laws.proofs.Bounds.{laid_of, side_few, vertices_few}
+use Rattle.{def_cut.specs.Grids.rectangle, def_math.specs.Counts.count_below, def_math.specs.Runs.run_at}
+use Rattle.{def_written.specs.Numbers.vertices, written_laws.proofs.Sides.arc_inner, qm_offsets.specs.Fours.arcs_on}
+use Rattle.{qm_offsets.proofs.Spots.last_is, qm_offsets.proofs.Spots.within_run}
+use Rattle.def_written.specs.{Numbers.before_arc, Numbers.before_patch, Numbers.vertex_number as point_name}
 
 -- Its key is lower, or the same and its price no higher.
 abbrev IsBefore : (a b : Remedy) → Type 0

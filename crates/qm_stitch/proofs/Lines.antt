@@ -1,18 +1,17 @@
 -- Remedies along arcs and along the sides of patches, by the edges of arcs and of lines.
 use Rattle.std.proofs.Common.{rules, ◌≡◌, ◌⊎◌, ◌↔◌, ℕ, ◌-◌, ◌%◌, ◌<◌, not, List, refl, sym, ◌∙◌, ap, subst, inl, inr}
-use Rattle.std.proofs.Common.{arith}
-use Rattle.def_flow.specs.declared.limits.TheConstants.{MAX_FLOOR}
 use Rattle.def_layout.specs.{Gluings.Gluing, Lengths.Lengths, Lengths.size, Layouts.Layout, Layouts.layout_of}
 use Rattle.def_written.specs.Edges.{Edge, on_arc, flat, steep}
 use Rattle.qm_stitch.specs.Remedies.{price_along, price_of, short_price, IsAlong, IsAlongArcs, IsAlongPatches, IsByLine}
 use Rattle.qm_stitch.specs.Remedies.{IsPricedRemedy, IsRunIn, IsRunOf, IsShortRun}
-use Rattle.qm_stitch.specs.{Lengthened.gluing_in, Lengthened.lengths_by, Rims.along_lines, Rims.key_of, Rims.line_edge}
-use Rattle.qm_stitch.specs.{Rims.IsLine, Rims.IsRepeat, Tight.IsDoubled, declared.priced.Priced.Priced}
-use Rattle.qm_stitch.specs.{declared.remedy.Remedy.Remedy, declared.remedy.Run.Run, declared.remedy.Run.TheVariants.Arc}
-use Rattle.qm_stitch.specs.{declared.remedy.Run.TheVariants.Side, declared.rim.Line.Line}
-use Rattle.qm_stitch.proofs.{RimEdges.line_is, TightEdges.key_tells, TightEdges.line_end, TightEdges.line_parts}
-use Rattle.qm_stitch.proofs.{TightEdges.line_some, RiseLists.remedy_in}
-use Rattle.{std.specs.Prelude.◌==◌, std.specs.Prelude.ℤ, qm_offsets.specs.Fours.arcs_on}
+use Rattle.qm_stitch.specs.{Lengthened.gluing_in, Lengthened.lengths_by, Tight.IsDoubled, declared.priced.Priced.Priced}
+use Rattle.qm_stitch.specs.{declared.remedy.Remedy.Remedy, declared.remedy.Run.Run, declared.rim.Line.Line}
+use Rattle.qm_stitch.specs.Rims.{along_lines, key_of, line_edge, IsLine, IsRepeat}
+use Rattle.qm_stitch.specs.declared.remedy.Run.TheVariants.{Arc, Side}
+use Rattle.qm_stitch.proofs.TightEdges.{key_tells, line_end, line_parts, line_some}
+use Rattle.{std.proofs.Common.arith, def_flow.specs.declared.limits.TheConstants.MAX_FLOOR}
+use Rattle.{qm_stitch.proofs.RimEdges.line_is, qm_stitch.proofs.RiseLists.remedy_in, std.specs.Prelude.◌==◌}
+use Rattle.{std.specs.Prelude.ℤ, qm_offsets.specs.Fours.arcs_on}
 
 -- A remedy of these parts.
 abbrev made : (key : ℕ) (price : ℤ) (run : Run) → Remedy

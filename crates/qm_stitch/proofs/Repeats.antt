@@ -88,10 +88,7 @@ module _ (keys : List ℕ) (increasing : IsNonDecreasing keys) where
       omega arith,
       between place (place + 1) j (omega arith) (omega arith) j_low (at ∙ sym at_j),
     )))
-    | inr after ↦ inr (
-      omega arith,
-      between i (place - 1) place (omega arith) (omega arith) low (at_i ∙ sym at) ∙ at_i,
-    )
+    | inr after ↦ inr (omega arith, between i (place - 1) place (omega arith) (omega arith) low (at_i ∙ sym at) ∙ at_i)
   ]
 
   -- It is told at the first place where it stands.

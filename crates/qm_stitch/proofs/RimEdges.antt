@@ -1,19 +1,17 @@
 -- Lists that are joined of parts, in which no item stands twice.
-use Rattle.std.proofs.Common.{rules}
-use Rattle.std.proofs.Common.{◌≡◌, ◌≢◌, ◌⊎◌, ℕ, zero, suc, ◌+◌, ◌-◌, ◌<◌, ◌≤◌, Bool, true, false, cond, not, List, []}
-use Rattle.std.proofs.Common.{◌∷◌, ◌++◌, map, length, refl, sym, ◌∙◌, ap, subst, inl, inr, length-append, arith}
+use Rattle.std.proofs.Common.{rules, ◌≡◌, ◌≢◌, ◌⊎◌, ℕ, zero, suc, ◌+◌, ◌-◌, ◌<◌, ◌≤◌, Bool, true, false, cond, not}
+use Rattle.std.proofs.Common.{List, [], ◌∷◌, ◌++◌, map, length, refl, sym, ◌∙◌, ap, subst, inl, inr, length-append}
+use Rattle.std.proofs.{Common.arith, lemmas.List.map-id, lemmas.List.Concat.flat_map-append}
 use Rattle.std.proofs.lemmas.List.{get_or_append_left, get_or-append_right, append-nil, append_assoc, map-append}
-use Rattle.std.proofs.lemmas.List.{map-id}
 use Rattle.std.proofs.lemmas.List.Elements.{All-append, All-nil, Contains-append_left, Contains-append_right}
 use Rattle.std.proofs.lemmas.List.FromFn.{get_or-map-range_with_len, length-map-range_with_len, map-range_with_len_more}
-use Rattle.std.proofs.lemmas.{Bool.cases_eq, Bool.cases_lt, Bool.lt-ltb, Bool.ltb-true, List.Concat.flat_map-append}
-use Rattle.std.specs.{List.All, List.AllPairs, List.Contains, List.flat_map, List.range_with_len, Prelude.nat_lt}
-use Rattle.def_layout.specs.{Gluings.Gluing, Surfaces.HasWholeSides, Lengths.Lengths, Lengths.size, Lengths.wide}
-use Rattle.def_layout.specs.{Lengths.high, Lengths.AreLengths}
+use Rattle.std.proofs.lemmas.Bool.{cases_eq, cases_lt, lt-ltb, ltb-true}
+use Rattle.std.specs.List.{All, AllPairs, Contains, flat_map, range_with_len}
+use Rattle.def_layout.specs.Lengths.{Lengths, size, wide, high, AreLengths}
 use Rattle.def_written.specs.Edges.{Edge, on_arc, flat, steep, IsEdge}
-use Rattle.written_laws.proofs.Sides.{size_some}
 use Rattle.qm_stitch.specs.Rims.{all_lines, along_lines, arcs_upto, ends_in, line_edge, line_ends, patches_upto}
-use Rattle.qm_stitch.specs.Rims.{rim_edges, segments}
+use Rattle.{std.specs.Prelude.nat_lt, def_layout.specs.Gluings.Gluing, def_layout.specs.Surfaces.HasWholeSides}
+use Rattle.{written_laws.proofs.Sides.size_some, qm_stitch.specs.Rims.rim_edges, qm_stitch.specs.Rims.segments}
 
 -- No item stands twice.
 abbrev pub IsFresh : {X : Type 0} (xs : List X) → Type 0
@@ -192,22 +190,19 @@ module _ (l : Gluing) (x : Lengths) where
 
   -- No edge is listed twice.
   pub fresh_rim : IsFresh (rim_edges l x)
-  fresh_rim = fresh_append kind 0 (arcs_upto x l.arcs) _
-      (fresh_parts (segments x) home 0 l.arcs (λ a. fresh_range (on_arc a) line (x a) (λ k. refl))
-      (λ a. all_range (λ e. home e ≡ a) (on_arc a) (x a) (λ k less. refl)))
-      (fresh_parts (ends_in l x) home 0 l.patches fresh_patch
-      (λ p. each_in (λ e. home e ≡ p) p (λ u n k some up less. (parts_are u p n k).1)))
-      (all_parts (λ e. kind e ≤ 0) (segments x) 0 l.arcs
+  fresh_rim = fresh_append kind 0 (arcs_upto x l.arcs) _ (fresh_parts (segments x) home 0 l.arcs
+      (λ a. fresh_range (on_arc a) line (x a) (λ k. refl)) (λ a. all_range (λ e. home e ≡ a) (on_arc a) (x a)
+      (λ k less. refl))) (fresh_parts (ends_in l x) home 0 l.patches fresh_patch (λ p. each_in (λ e. home e ≡ p) p
+      (λ u n k some up less. (parts_are u p n k).1))) (all_parts (λ e. kind e ≤ 0) (segments x) 0 l.arcs
       (λ a low up. all_range (λ e. kind e ≤ 0) (on_arc a) (x a) (λ k less. omega arith)))
-      (all_parts (λ e. 0 < kind e) (ends_in l x) 0 l.patches
-      (λ p low up. each_in (λ e. 0 < kind e) p (λ u n k some above less. (parts_are u p n k).0)))
+      (all_parts (λ e. 0 < kind e) (ends_in l x) 0 l.patches (λ p low up. each_in (λ e. 0 < kind e) p
+      (λ u n k some above less. (parts_are u p n k).0)))
 
   -- What is listed is an edge.
   pub all_edges : HasWholeSides l → AreLengths l x → All (IsEdge l x) (rim_edges l x)
   all_edges paved len = All-append (IsEdge l x) (arcs_upto x l.arcs) (patches_upto l x l.patches)
-      (all_parts (IsEdge l x) (segments x) 0 l.arcs
-      (λ a low up. all_range (IsEdge l x) (on_arc a) (x a) (λ k less. (omega (arith, up), less))))
-      (all_parts (IsEdge l x) (ends_in l x) 0 l.patches (λ p low up.
+      (all_parts (IsEdge l x) (segments x) 0 l.arcs (λ a low up. all_range (IsEdge l x) (on_arc a) (x a)
+      (λ k less. (omega (arith, up), less)))) (all_parts (IsEdge l x) (ends_in l x) 0 l.patches (λ p low up.
       let there : p < l.patches = omega (arith, up) in
       each_in (IsEdge l x) p (λ u n k some above less. line_is l x u p n k there some above
       (less (size_some l x paved len p (along_lines u) there)))))

@@ -1,23 +1,22 @@
 -- Rises by marks of the tight arcs are the needed ones.
 use Rattle.std.proofs.Common.{rules, ◌≡◌, ◌⊎◌, ◌↔◌, ℕ, zero, suc, ◌+◌, ◌<◌, ◌≤◌, Bool, true, false, List, [], ◌∷◌, ◌++◌}
 use Rattle.std.proofs.Common.{Option, None, Some, length, get_or, refl, sym, ◌∙◌, ap, subst, inl, inr, arith}
-use Rattle.std.proofs.Common.{length-append}
-use Rattle.std.proofs.{lemmas.Bool.cases_eq, lemmas.Bool.cases_lt, lemmas.Bool.false≢true}
-use Rattle.std.proofs.{lemmas.List.get_or_append_left, lemmas.List.get_or_push, lemmas.List.Elements.Contains-get_or}
-use Rattle.std.specs.{Prelude.ℤ, Prelude.pos, List.Contains}
-use Rattle.def_layout.specs.{Gluings.Gluing, Lengths.Lengths, Layouts.gluing_of, Layouts.side_at, Layouts.way_number}
-use Rattle.def_layout.specs.{Layouts.Layout, Surfaces.HasWholeSides, declared.tmesh.SideArc.SideArc}
+use Rattle.std.proofs.{Common.length-append, lemmas.List.get_or_append_left, lemmas.List.get_or_push}
+use Rattle.std.proofs.lemmas.Bool.{cases_eq, cases_lt, false≢true}
+use Rattle.def_layout.specs.{Gluings.Gluing, Lengths.Lengths, Surfaces.HasWholeSides, declared.tmesh.SideArc.SideArc}
+use Rattle.def_layout.specs.Layouts.{gluing_of, side_at, way_number, Layout}
 use Rattle.def_remesh.specs.Rises.{rise_at, AreNeeded, AreTightLong, IsNeeded, IsTightArc, RunsAlong}
-use Rattle.def_remesh.specs.{NewPoints.lengths_in, Numberings.used_at}
 use Rattle.qm_stitch.specs.Raised.{AreFloors, AreOrdered, AreRisesUpto, IsFloorOf, IsShortTight}
+use Rattle.qm_stitch.specs.{Rims.key_of, declared.remedy.Remedy.Remedy, declared.remedy.Run.Run}
 use Rattle.qm_stitch.specs.Remedies.{price_of, IsArcOf, IsRemedy, IsRunIn, IsRunOf, IsShortRun, IsSomeShort, AreMarksOf}
 use Rattle.qm_stitch.specs.Remedies.{FollowCheapest, IsCheapest, IsCheapestIn}
-use Rattle.qm_stitch.specs.{Rims.key_of, declared.remedy.Remedy.Remedy, declared.remedy.Run.Run}
-use Rattle.qm_stitch.specs.{declared.remedy.Run.TheVariants.Arc, declared.remedy.Run.TheVariants.Side}
+use Rattle.qm_stitch.specs.declared.remedy.Run.TheVariants.{Arc, Side}
 use Rattle.def_written.specs.Edges.{Edge, on_arc, flat, steep, IsEdge}
+use Rattle.{std.proofs.lemmas.List.Elements.Contains-get_or, std.specs.Prelude.ℤ, std.specs.Prelude.pos}
+use Rattle.{std.specs.List.Contains, def_remesh.specs.NewPoints.lengths_in, def_remesh.specs.Numberings.used_at}
 use Rattle.{def_certtext.specs.declared.certs.Rise.Rise, def_flow.specs.declared.limits.TheConstants.MAX_FLOOR}
 use Rattle.{qm_offsets.proofs.Whole.arcs_low, qm_offsets.proofs.Whole.way_for, qm_offsets.specs.Fours.arcs_on}
-use Rattle.qm_stitch.proofs.TightEdges.{doubled_by, tight_by}
+use Rattle.{qm_stitch.proofs.TightEdges.doubled_by, qm_stitch.proofs.TightEdges.tight_by}
 
 -- The rise past the last one.
 abbrev no_rise : Rise
@@ -93,10 +92,9 @@ find_short xs (suc n) not_long = elim (cases_lt (lengths_in xs n) MAX_FLOOR) [
 
 module _ (l : Gluing) (xs : List ℕ) (tight : List Bool) (long : length xs ≡ l.arcs) where
   -- Rises by marks of tight arcs are needed, where they are all short ones if no tight arc is short.
-  floors_needed : {some : Bool} {rises : List Rise} → 0 < length rises → AreOrdered rises
-      → AreFloors some tight xs rises
-      → (some ≡ true → (arc : ℕ) → arc < l.arcs → get_or tight arc false ≡ true → IsTightArc l (lengths_in xs) arc)
-      → (some ≡ false → AreTightLong l (lengths_in xs)) → AreNeeded l (lengths_in xs) rises
+  floors_needed : {some : Bool} {rises : List Rise} → 0 < length rises → AreOrdered rises → AreFloors some tight xs
+      rises → (some ≡ true → (arc : ℕ) → arc < l.arcs → get_or tight arc false ≡ true → IsTightArc l (lengths_in xs)
+      arc) → (some ≡ false → AreTightLong l (lengths_in xs)) → AreNeeded l (lengths_in xs) rises
   floors_needed {some} {rises} has ordered floors sound all = record {
     some = has;
     ordered = ordered;
@@ -173,13 +171,7 @@ module _ (layout : Layout) (x : Lengths) (prices : List ℤ) where
         let price = price_of layout x prices run.0 in
         absurd (none (record { key = key_of (gluing_of layout) x t.edge; price = price; run = run.0 }) (
           t.edge,
-          record {
-            doubled = doubled_by t;
-            key = refl;
-            run = run.1;
-            short = (arc, run.2, short);
-            price = refl;
-          },
+          record { doubled = doubled_by t; key = refl; run = run.1; short = (arc, run.2, short); price = refl },
         ))
     | inr high ↦ high
   ]
@@ -199,8 +191,7 @@ arc_low layout (Arc a) arc paved there same = omega arith
 arc_low layout (Side p s) arc paved there has =
     let w = way_for s there.1 in
     let on : IsArcOf layout (Side p (way_number w.0)) arc = rw w.1 has in
-    rw (← on.2)
-    (arcs_low layout paved p w.0 (length layout.arcs) (side_at layout p w.0) there.0 refl refl on.0 _ on.1)
+    rw (← on.2) (arcs_low layout paved p w.0 (length layout.arcs) (side_at layout p w.0) there.0 refl refl on.0 _ on.1)
 
 -- The rises of marked arcs of cheapest remedies are needed, and they follow the rule.
 

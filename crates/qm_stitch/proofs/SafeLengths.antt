@@ -11,9 +11,8 @@ use Rattle.{def_layoutnet.specs.MeshLayouts.IsSomeLayout, def_written.specs.Edge
 
 module _ (layout : Layout) (list : List ℕ) (long : length list ≡ length layout.arcs) where
   -- Beyond the arcs, lengths are 0.
-  same_lengths : (by : ℕ) → ((arc : ℕ) → arc < length layout.arcs → lengths_in list arc
-      ≡ multiple_of by (long_at layout.arcs) arc)
-      → (arc : ℕ) → multiple_of by (long_at layout.arcs) arc ≡ lengths_in list arc
+  same_lengths : (by : ℕ) → ((arc : ℕ) → arc < length layout.arcs → lengths_in list arc ≡ multiple_of by
+      (long_at layout.arcs) arc) → (arc : ℕ) → multiple_of by (long_at layout.arcs) arc ≡ lengths_in list arc
   same_lengths by same arc = search (rules, get_or_past)
 
   pub safe_undoubled : IsSomeLayout layout → AreLengths (gluing_of layout) (lengths_in list)

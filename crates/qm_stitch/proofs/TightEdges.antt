@@ -125,10 +125,7 @@ module _ (keyed : Keyed) where
         let told = λ (k : ℕ) (less : k < size l x line.patch (along_lines line.upright)). key_tells (edge k)
         (line_is l x line.upright line.patch line.number k inside.patch inside.some inside.inside less) in
         let end : last < size l x line.patch (along_lines line.upright) = omega (arith, line_some) in (
-          elim [
-            | inl first ↦ (0, (told 0 line_some).0 first)
-            | inr repeats ↦ (last, (told last end).0 repeats)
-          ],
+          elim [ inl first ↦ (0, (told 0 line_some).0 first) | inr repeats ↦ (last, (told last end).0 repeats) ],
           λ by. elim (line_end line.upright line.patch line.number by.0 by.1) [
             | inl first ↦ inl ((told 0 line_some).1 (subst (λ (k : ℕ). IsDoubled l x (edge k)) first by.1))
             | inr same ↦ inr ((told last end).1 (subst (λ (k : ℕ). IsDoubled l x (edge k)) same by.1))

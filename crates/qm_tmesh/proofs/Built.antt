@@ -28,10 +28,9 @@ filter_same p q zero same = refl
 filter_same p q (suc n) same =
     let e : n + 1 ≡ suc n = omega arith in
     ap (λ k. filter p (range_with_len 0 k)) (sym e)
-    ∙ (filter_range_more p n
-    ∙ (ap (λ xs. xs ++ cond (p n) (n ∷ []) []) (filter_same p q n (λ v l. same v (omega arith)))
-    ∙ (ap (λ b. filter q (range_with_len 0 n) ++ cond b (n ∷ []) []) (same n (omega arith))
-    ∙ (sym (filter_range_more q n) ∙ ap (λ k. filter q (range_with_len 0 k)) e))))
+    ∙ (filter_range_more p n ∙ (ap (λ xs. xs ++ cond (p n) (n ∷ []) [])
+    (filter_same p q n (λ v l. same v (omega arith))) ∙ (ap (λ b. filter q (range_with_len 0 n) ++ cond b (n ∷ []) [])
+    (same n (omega arith)) ∙ (sym (filter_range_more q n) ∙ ap (λ k. filter q (range_with_len 0 k)) e))))
 
 -- A mesh, a full cut and the marks of its nodes.
 pub to_marked : {faces : Faces} {cut marks : List Bool} → IsMesh faces → IsFullCut faces cut

@@ -56,9 +56,8 @@ module _ {faces : Faces} {cut marks : List Bool} (marked : IsMarked faces cut ma
       home.run in
       let (i, li, of_r) = name_dart marked r m two in
       let (j, lj, of_s) = name_dart marked s n one in
-      let over = marked.laws.twin_twin (easts mesh r i) (easts mesh s (m - suc i))
-      (run_low mesh marked.laws (is_on cut) marked.full (is_node faces cut) marked.stand r m two.run i li)
-      (home.twin i (m - suc i) (omega arith)) in
+      let over = marked.laws.twin_twin (easts mesh r i) (easts mesh s (m - suc i)) (run_low mesh marked.laws (is_on cut)
+      marked.full (is_node faces cut) marked.stand r m two.run i li) (home.twin i (m - suc i) (omega arith)) in
       omega (
         arith,
         one.named (m - suc i) (run_name mesh r m) (omega (arith, same)) (over ∙ ap Some of_r),
@@ -92,8 +91,7 @@ module _ {faces : Faces} {cut marks : List Bool} (marked : IsMarked faces cut ma
         let q = named.each b lb in
         let size = same_length mesh marked.laws (is_on cut) marked.full (is_node faces cut) marked.stand q.0
         (long_at arcs a) (long_at arcs b) (rw e at p.1.run) q.1.run in
-        let name : name_at arcs a ≡ name_at arcs b =
-        ap least_of p.2 ∙ (ap (λ x. run_name mesh x (long_at arcs a)) e
+        let name : name_at arcs a ≡ name_at arcs b = ap least_of p.2 ∙ (ap (λ x. run_name mesh x (long_at arcs a)) e
         ∙ (ap (run_name mesh q.0) size ∙ sym (ap least_of q.2))) in
         increasing_place (name_at arcs) (length arcs) (record { step = named.ordered }) a b la lb name
 
@@ -220,9 +218,8 @@ module _ {faces : Faces} {cut marks : List Bool} (marked : IsMarked faces cut ma
               (a, false, la, long, lies)
         ]
 
-    pub uses_done : {uses : List SideArc} {ps : List Rectangle} {face : ℕ → ℕ}
-        → HasUsesBelow faces arcs (length arcs) uses → IsPartition mesh (is_on cut) face ps
-        → HasUses faces cut arcs uses
+    pub uses_done : {uses : List SideArc} {ps : List Rectangle} {face : ℕ → ℕ} → HasUsesBelow faces arcs (length arcs)
+        uses → IsPartition mesh (is_on cut) face ps → HasUses faces cut arcs uses
     uses_done {uses} {ps} {face} table parts d l on begins =
         let (s, n, k, run, lk, e) = each_in_run mesh marked.laws (is_on cut) marked.full (is_node faces cut)
         marked.stand face ps parts d l on in

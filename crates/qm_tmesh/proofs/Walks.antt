@@ -65,9 +65,8 @@ module _ {faces : Faces} {cut nodes : List Bool} (marked : IsMarked faces cut no
 
     pub walk_straight : is_node faces cut (end_vertex (half_edges faces) d) ≡ false → straight_of faces d
         ≡ Some (step_east (half_edges faces) d)
-    walk_straight off = ap (option_map next_of)
-        (on_from mesh marked.laws (is_on cut) marked.full node marked.stand d walk_low.0 walk_low.1 off).over
-        ∙ ap Some (marked.laws.next_prev (step_east mesh d))
+    walk_straight off = ap (option_map next_of) (on_from mesh marked.laws (is_on cut) marked.full node marked.stand d
+        walk_low.0 walk_low.1 off).over ∙ ap Some (marked.laws.next_prev (step_east mesh d))
 
     pub walk_inner : is_node faces cut (end_vertex (half_edges faces) d) ≡ false → (k : ℕ) → k < i + 1
         → is_node faces cut (end_vertex (half_edges faces) (easts (half_edges faces) s k)) ≡ false

@@ -25,9 +25,8 @@ pub bench_net : {layout other : Layout} {settings : Settings} {net : Network} �
     → settings ≡ bench_settings
     → IsNetOf (gluing_of other) (long_at other.arcs) (long_at other.arcs) settings (λ a. settings.floor) net
     → IsNetOf (gluing_of layout) (long_at layout.arcs) (long_at layout.arcs) bench_settings (λ a. 1) net
-bench_net {layout} {settings = settings} {net} equal same is =
-    subst (λ (s : Settings). IsNetOf (gluing_of layout) (long_at layout.arcs) (long_at layout.arcs) s (λ a. s.floor)
-    net) same
+bench_net {layout} {settings = settings} {net} equal same is = subst (λ (s : Settings). IsNetOf (gluing_of layout)
+    (long_at layout.arcs) (long_at layout.arcs) s (λ a. s.floor) net) same
     (subst (λ (p : Layout). IsNetOf (gluing_of p) (long_at p.arcs) (long_at p.arcs) settings (λ a. settings.floor) net)
     equal is)
 

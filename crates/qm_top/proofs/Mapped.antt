@@ -121,13 +121,7 @@ module _ {input : Change} (out : Change) {bytes : Bytes} (whole : ReadWhole MAX_
       let fault = none.fault in
       place_ended bytes none.old whole (inr (
         other,
-        record {
-          line = fault.line;
-          soup = none.old;
-          old = fault.old;
-          fault = fault.fault;
-          refuted = fault.refuted;
-        },
+        record { line = fault.line; soup = none.old; old = fault.old; fault = fault.fault; refuted = fault.refuted },
       )) (inr (other, (fault.line, fault.old))) none.numbers calm
   unpaired_ends other (Layout (layouts.Tangled count)) none = search (rules, ended, inr)
   unpaired_ends other refusals.Memory none = ended tt tt calm

@@ -1,11 +1,10 @@
 -- Where the faces of a soup first fail to be a manifold, each vertex has a number.
 use Rattle.std.proofs.Common.{rules, ◌≡◌, ℕ, suc, ◌+◌, ◌*◌, ◌%◌, ◌<◌, Bool, true, false, cond, eqb, ltb, List, [], ◌∷◌}
 use Rattle.std.proofs.Common.{length, get_or, Some, subst, ap, ◌∙◌, refl, inl, inr, arith}
-use Rattle.std.proofs.{lemmas.Bool.and_from, lemmas.Bool.cases_lt, lemmas.Bool.lt-ltb, lemmas.Option.none-some}
-use Rattle.std.proofs.{lemmas.Option.same_Some}
+use Rattle.std.proofs.lemmas.Bool.{and_from, cases_lt, lt-ltb}
 use Rattle.def_mesh.specs.declared.Place.TheVariants.{Repeated, EdgeTwice, TwoFans}
 use Rattle.def_mesh.specs.{Faces.corner, Faces.face_at, Darts.from_of, Faults.repeat_after, Faults.IsFirstFault}
-use Rattle.def_mesh.specs.{declared.Place.Place}
+use Rattle.{std.proofs.lemmas.Option.none-some, std.proofs.lemmas.Option.same_Some, def_mesh.specs.declared.Place.Place}
 use Rattle.{std.specs.List.list_all, std.specs.List.list_any, def_text.specs.FaceSet.FaceSet}
 use Rattle.{def_text.specs.FaceSet.IsSoup, def_written.specs.Laws.AreQuads, qm_mesh.proofs.Vertices.below_from}
 use Rattle.{qm_mesh.specs.Tables.NamesBelow, qm_top.specs.Named.IsNamed}

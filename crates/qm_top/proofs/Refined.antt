@@ -30,11 +30,9 @@ use Rattle.def_run.specs.declared.command.Command.TheVariants as commands
 -- What is refined of a cut mesh is refined of the soup that it was made of.
 pub all_refined : (by : ℕ) {soup : FaceSet} (cut : CutSoup) (result : Result Regrid LayoutFail) → cut.soup ≡ soup
     → IsMeshLayout cut.soup.faces cut.layout → IsTracedLayout cut.soup.faces cut.layout
-    → IfOk result (λ new. (new.soup ≡ cut.soup) × (new.layout ≡ cut.layout)
-    × (lengths_in new.lengths ≡ multiple_of by (long_at cut.layout.arcs)) × (new.shares ≡ None))
-    → OnOk result (refined_faces by cut.layout ≤ MAX_NEW_FACES)
-    → OnOk result (KeepsShapes cut.layout (multiple_of by (long_at cut.layout.arcs)))
-    → IfOk result (IsRefinedMesh by soup)
+    → IfOk result (λ new. (new.soup ≡ cut.soup) × (new.layout ≡ cut.layout) × (lengths_in new.lengths ≡ multiple_of by
+    (long_at cut.layout.arcs)) × (new.shares ≡ None)) → OnOk result (refined_faces by cut.layout ≤ MAX_NEW_FACES) → OnOk
+    result (KeepsShapes cut.layout (multiple_of by (long_at cut.layout.arcs))) → IfOk result (IsRefinedMesh by soup)
 all_refined by cut (Ok new) is laid traced (same, on, lengths, even) fits shape = record {
   same = same ∙ is;
   laid = rw (← is, on) laid;
@@ -124,9 +122,8 @@ is_blocked {by} {blocks = blocks} some are = record {
 }
 
 -- The text of the grids of a cut mesh.
-pub is_gridded : {chosen : Chosen} {by : ℕ} {cut : CutSoup} {blocks : Blocks} → 0 < by
-    → IsMeshLayout cut.soup.faces cut.layout → AreGridsBy chosen by cut blocks
-    → IsGridded chosen.keep chosen.patches by cut (told_text blocks)
+pub is_gridded : {chosen : Chosen} {by : ℕ} {cut : CutSoup} {blocks : Blocks} → 0 < by → IsMeshLayout cut.soup.faces
+    cut.layout → AreGridsBy chosen by cut blocks → IsGridded chosen.keep chosen.patches by cut (told_text blocks)
 is_gridded {by = by} {cut = cut} {blocks = blocks} some laid are = record {
   fits = are.fits;
   grids = record {

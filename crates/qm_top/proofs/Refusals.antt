@@ -1,32 +1,31 @@
 -- Refusals of the steps of a run as answers with their causes, and what a command keeps that writes a text.
 use Rattle.std.proofs.Common.{rules, Err, List, Ok, Result, [], ap, arith, length, refl, subst, sym, ℕ, ◌++◌, ◌-◌, ◌∙◌}
-use Rattle.std.proofs.Common.{◌∷◌, ◌≡◌, ◌≢◌}
-use Rattle.{std.proofs.lemmas.List.take_all, def_layout.specs.FaceLayouts.IsCutLayout, def_layout.specs.Layouts.Layout}
+use Rattle.std.proofs.{Common.◌∷◌, Common.◌≡◌, Common.◌≢◌, lemmas.List.take_all}
 use Rattle.std.specs.Prelude.{IfErr, IfOk, IsErrAnd, IsErrOf, OnOk, slice_range}
 use Rattle.def_certtext.specs.{CertLines.certificates_of, CertLines.used, declared.certs.Terms.Terms}
-use Rattle.def_io.specs.{Moves.Change, Moves.GaveMore, Moves.IsStill, Moves.Stream, Moves.TookPrefix, Moves.took}
+use Rattle.def_io.specs.Moves.{Change, GaveMore, IsStill, Stream, TookPrefix, took}
 use Rattle.def_io.specs.{Bytes.Bytes, Bytes.Lines, Faults.Rose, declared.fails.WriteFail.WriteFail}
-use Rattle.def_mesh.specs.{Manifold.IsManifold, declared.Place.Place}
 use Rattle.def_remesh.specs.{Keeping.IsKept, NewPoints.lengths_in, Placings.IsMeshLayout, Tasks.Task, Tasks.Wish}
-use Rattle.def_remesh.specs.{declared.kept.LayoutFail.LayoutFail}
 use Rattle.def_run.specs.Causes.{Cause, FailsToRead, Reads, ReadsTooMany, Refuses, Writes}
+use Rattle.def_run.specs.{CommandLines.IsCommand, Crease.HasMarkFail, ErrorLines.error_line, Fit.HasAsideFail}
+use Rattle.def_run.specs.{LayOut.HasKeptFail, Mesh.IsMeshText, Mesh.IsNoMesh, Reread.Rereads}
+use Rattle.def_run.specs.{declared.answer.Answer.Answer, declared.command.Command.Command}
 use Rattle.def_run.specs.declared.command.Command.TheVariants.{Bench, Check, Crease, Fit, Grids, LayOut, Map}
-use Rattle.def_run.specs.{Messages.AreNames, Messages.LooksAt, Messages.Said, Messages.SaidWhy, CommandLines.IsCommand}
-use Rattle.def_run.specs.{Crease.HasMarkFail, ErrorLines.error_line, Fit.HasAsideFail, LayOut.HasKeptFail}
-use Rattle.def_run.specs.{Mesh.IsMeshText, Mesh.IsNoMesh, Reread.Rereads, declared.answer.Answer.Answer}
-use Rattle.def_run.specs.{declared.command.Command.Command, declared.words.WordsFail.WordsFail}
+use Rattle.def_run.specs.Messages.{AreNames, LooksAt, Said, SaidWhy}
 use Rattle.def_text.specs.{FaceSet.FaceSet, Fails.of_obj, Input.ReadRefused, Input.ReadWhole, Text.soup_in, Types.Words}
 use Rattle.def_text.specs.{declared.limits.TheConstants.MAX_BYTES, declared.refusal.ObjFail.ObjFail}
 use Rattle.qm_top.specs.Refusals.{Ended, IsInputRefusal, IsNoMeshOf, answer_of, answer_of_layout, answer_of_marks}
 use Rattle.qm_top.specs.Refusals.{answer_of_obj, answer_of_words, names_of}
+use Rattle.qm_top.specs.{Meshless.IsMeshless, Runs.HasRun, declared.named.NamedPlace.NamedPlace}
 use Rattle.qm_top.specs.Writing.{BrokeText, IsOfLayout, IsUnwritten, WroteText, refusal_of_put}
 use Rattle.qm_top.specs.declared.refusal.Refusal.TheVariants.{Marks, NotManifold, Soup, Write}
-use Rattle.qm_top.specs.{Meshless.IsMeshless, Runs.HasRun, declared.named.NamedPlace.NamedPlace}
-use Rattle.qm_top.specs.{declared.refusal.Refusal.Refusal}
-use Rattle.qm_write.specs.{Framing.framed_text, declared.remesh.Remesh.Remesh as NewMesh, declared.text.Framed.Framed}
-use Rattle.qm_write.specs.{declared.text.PutFail.PutFail}
+use Rattle.{def_layout.specs.FaceLayouts.IsCutLayout, def_layout.specs.Layouts.Layout}
+use Rattle.{def_mesh.specs.Manifold.IsManifold, def_mesh.specs.declared.Place.Place}
+use Rattle.{def_remesh.specs.declared.kept.LayoutFail.LayoutFail, def_run.specs.declared.words.WordsFail.WordsFail}
+use Rattle.{qm_top.specs.declared.refusal.Refusal.Refusal, qm_write.specs.declared.text.PutFail.PutFail}
 use Rattle.{def_marks.specs.declared.fail.MarkFail.MarkFail, qm_top.proofs.NeverBytes.never_bytes}
 use Rattle.{qm_write.proofs.Framing.text_is, remesh_laws.proofs.Keeps.shown, remesh_laws.specs.Keeps.ShowsTask}
+use Rattle.qm_write.specs.{Framing.framed_text, declared.remesh.Remesh.Remesh as NewMesh, declared.text.Framed.Framed}
 use Rattle.def_marks.specs.declared.fail.MarkFail.TheVariants as marks
 use Rattle.def_run.specs.declared.answer.Answer.TheVariants as answers
 use Rattle.def_run.specs.declared.words.WordsFail.TheVariants as words
@@ -183,10 +182,9 @@ module _ {O : Type 0} {command : Command} {input : Change} {out : Stream O} {res
 -- ---- What is told of a refusal.
 
 -- The line that was said has the answer of the refusal and the numbers that it keeps.
-pub says_why : {words : Words} {command : Command} {input err : Change} (r : Refusal) (answer : Answer)
-    (names : List ℕ) (line : Bytes) → IsCommand words command → answer ≡ answer_of r → names ≡ names_of r
-    → AreNames command input (answer_of r) (names_of r) → line ≡ error_line names answer → Said line err
-    → SaidWhy words input err answer
+pub says_why : {words : Words} {command : Command} {input err : Change} (r : Refusal) (answer : Answer) (names : List ℕ)
+    (line : Bytes) → IsCommand words command → answer ≡ answer_of r → names ≡ names_of r → AreNames command input
+    (answer_of r) (names_of r) → line ≡ error_line names answer → Said line err → SaidWhy words input err answer
 says_why {command = command} {err = err} r answer names line accepted is named of_file says said = record {
   names = names;
   of_the_file = λ place told. record { command = command; line = accepted; numbered = rw (is, named) of_file };
@@ -300,9 +298,8 @@ on_ok_both P Q (Err error) p q = tt
 
 -- A text that was not put whole was not written whole.
 pub put_refused : {O : Type 0} (says : Bytes → Type 0) (why : Refusal → Type 0) (out : Stream O) (text : Bytes)
-    (fail : PutFail)
-    → says text → why refusals.Memory → (IsErrOf {T = Unit {0}} (Err fail) puts.Stopped
-    → TookPrefix out.change.told out.change.told_now text)
+    (fail : PutFail) → says text → why refusals.Memory
+    → (IsErrOf {T = Unit {0}} (Err fail) puts.Stopped → TookPrefix out.change.told out.change.told_now text)
     → (IsErrOf {T = Unit {0}} (Err fail) puts.Stopped → Rose out.change.faults out.change.faults_now)
     → (IsErrOf {T = Unit {0}} (Err fail) puts.Memory → IsStill out) → IsUnwritten says why out (refusal_of_put fail)
 put_refused says h1 h2 h3 h4 h5 = search rules
@@ -316,14 +313,12 @@ kept_for {wish} {layout} remesh same kept = search rules
 
 -- The text of a remesh in its frame is that of the task for which it is kept.
 pub framed_shown : (task : Task) (framed : Framed) (soup : FaceSet) (layout : Layout) → IsMeshLayout soup.faces layout
-    → IsCutLayout soup.faces task.marks layout
-    → framed.remesh.terms ≡ record { settings = task.settings; rising = task.rising }
-    → IsKept task.wish layout task.settings task.rising (certificates_of framed.remesh.certs) framed.remesh.numbering
-    → framed.head.items ≡ task.head ++ 10 ∷ []
+    → IsCutLayout soup.faces task.marks layout → framed.remesh.terms ≡ record
+    { settings = task.settings; rising = task.rising } → IsKept task.wish layout task.settings task.rising
+    (certificates_of framed.remesh.certs) framed.remesh.numbering → framed.head.items ≡ task.head ++ 10 ∷ []
     → framed.between.items ≡ task.between layout (lengths_in (used (certificates_of framed.remesh.certs)).x)
     → framed.shares ≡ task.shares → ShowsTask task soup (framed_text framed soup layout)
-framed_shown task framed soup layout laid on same kept head between shares =
-    subst (ShowsTask task soup)
+framed_shown task framed soup layout laid on same kept head between shares = subst (ShowsTask task soup)
     (sym (text_is task framed soup layout (record {
       cut = on;
       settings = ap (λ (t : Terms). t.settings) same;

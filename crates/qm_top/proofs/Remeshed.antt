@@ -104,14 +104,11 @@ pub crease_tasked : {settings : Settings} → AreInRange settings false
     → IsTasked (commands.Crease settings) (AsksToCrease settings)
 crease_tasked {settings} range = record {
   writes = λ bytes text said. said;
-  read = λ bytes text said read short.
-      task_reread {asks = AsksToCrease settings} said (creased_task settings said.soup.faces said.asked.0)
-      said.asked.2 (crease_aside settings range)
+  read = λ bytes text said read short. task_reread {asks = AsksToCrease settings} said
+      (creased_task settings said.soup.faces said.asked.0) said.asked.2 (crease_aside settings range)
       (marked_aside said.asked.0 said.shown.finished.layout (lengths_in (used said.shown.finished.certificates).x)
-      (subst (λ (t : Task). HasShortLines
-      (t.between said.shown.finished.layout (lengths_in (used said.shown.finished.certificates).x)))
-      said.asked.2 short))
-      read;
+      (subst (λ (t : Task). HasShortLines (t.between said.shown.finished.layout
+      (lengths_in (used said.shown.finished.certificates).x))) said.asked.2 short)) read;
   refuses = λ bytes answer why. inr why;
 }
 
@@ -119,9 +116,8 @@ pub coarse_tasked : {settings : Settings} → AreInRange settings false
     → IsTasked (commands.Coarse settings) (AsksToMerge settings)
 coarse_tasked {settings} range = record {
   writes = λ bytes text said. said;
-  read = λ bytes text said read. task_reread {asks = AsksToMerge settings} said
-      (named_task (codes "coarse") settings said.asked.0) said.asked.2 (coarse_aside settings range)
-      none_aside read;
+  read = λ bytes text said read. task_reread {asks = AsksToMerge settings} said (named_task (codes "coarse") settings
+      said.asked.0) said.asked.2 (coarse_aside settings range) none_aside read;
   refuses = λ bytes answer why. why;
 }
 
@@ -150,19 +146,17 @@ module _ (bytes : Bytes) (cut : CutSoup) {read : FaceSet} {marks given : List Bo
 
   -- What is kept of it is written for its task.
   pub creased_shown : (settings : Settings) (framed : Framed) → IsMeshLayout cut.soup.faces cut.layout
-      → framed.remesh.terms ≡ record { settings = settings; rising = Never }
-      → IsKept old_lengths cut.layout settings Never (certificates_of framed.remesh.certs) framed.remesh.numbering
-      → framed.head.items ≡ named_head (codes "crease") settings ++ 10 ∷ []
-      → framed.between.items ≡ marked_text marks cut.layout (lengths_in (used (certificates_of framed.remesh.certs)).x)
-      → framed.shares ≡ None
+      → framed.remesh.terms ≡ record { settings = settings; rising = Never } → IsKept old_lengths cut.layout settings
+      Never (certificates_of framed.remesh.certs) framed.remesh.numbering → framed.head.items ≡ named_head
+      (codes "crease") settings ++ 10 ∷ [] → framed.between.items ≡ marked_text marks cut.layout
+      (lengths_in (used (certificates_of framed.remesh.certs)).x) → framed.shares ≡ None
       → ShowsAsked (AsksToCrease settings) bytes read (framed_text framed cut.soup cut.layout)
-  creased_shown settings framed laid is kept head between even =
-      rw (← same) (
-        creased_task settings cut.soup.faces marks,
-        asked_so settings,
-        framed_shown (creased_task settings cut.soup.faces marks) framed cut.soup cut.layout laid marked_on is kept head
-            between even,
-      )
+  creased_shown settings framed laid is kept head between even = rw (← same) (
+    creased_task settings cut.soup.faces marks,
+    asked_so settings,
+    framed_shown (creased_task settings cut.soup.faces marks) framed cut.soup cut.layout laid marked_on is kept head
+        between even,
+  )
 
   -- Where its layout is refused its task fails.
   pub creased_fails : (settings : Settings) (fail : LayoutFail)
@@ -225,19 +219,16 @@ module _ {aim : Aim} {asks near : Asks} {bytes : Bytes} {cut : CutSoup} {task : 
     (is : IsAimedAt aim asks near bytes cut task) (same : cut.soup ≡ read) where
   -- What is kept of a layout is written for it.
   pub aimed_shown : (framed : Framed) → IsMeshLayout cut.soup.faces cut.layout → AreAimedNear aim task.wish cut.layout
-      → framed.remesh.terms ≡ record { settings = task.settings; rising = task.rising }
-      → IsKept task.wish cut.layout task.settings task.rising (certificates_of framed.remesh.certs)
-      framed.remesh.numbering
-      → framed.head.items ≡ task.head ++ 10 ∷ []
-      → framed.between.items ≡ task.between cut.layout (lengths_in (used (certificates_of framed.remesh.certs)).x)
-      → framed.shares ≡ task.shares
+      → framed.remesh.terms ≡ record { settings = task.settings; rising = task.rising } → IsKept task.wish cut.layout
+      task.settings task.rising (certificates_of framed.remesh.certs) framed.remesh.numbering
+      → framed.head.items ≡ task.head ++ 10 ∷ [] → framed.between.items ≡ task.between cut.layout
+      (lengths_in (used (certificates_of framed.remesh.certs)).x) → framed.shares ≡ task.shares
       → ShowsAsked near bytes read (framed_text framed cut.soup cut.layout)
-  aimed_shown framed laid close terms kept head between shares =
-      rw (← same) (
-        task,
-        is.nearly close,
-        framed_shown task framed cut.soup cut.layout laid is.on terms kept head between shares,
-      )
+  aimed_shown framed laid close terms kept head between shares = rw (← same) (
+    task,
+    is.nearly close,
+    framed_shown task framed cut.soup cut.layout laid is.on terms kept head between shares,
+  )
 
   fails_for : {O : Type 0} (says : Bytes → Type 0) (out : Stream O) → IsStill out → (fail : SizeFail)
       → IsFitFail aim task.wish cut.layout task.settings task.rising fail
@@ -276,11 +267,9 @@ fit_aimed {fit} is = record {
   read = λ bytes text said read short.
       let asked = said.asked.0 in
       let new = lengths_in (used said.shown.finished.certificates).x in
-      task_reread {asks = AsksForNearFit fit} said (fit_task fit said.soup asked.0 asked.1) asked.4
-      (fit_aside fit is)
+      task_reread {asks = AsksForNearFit fit} said (fit_task fit said.soup asked.0 asked.1) asked.4 (fit_aside fit is)
       (kept_aside asked.0.kept said.shown.finished.layout new
-      (subst (λ (t : Task). HasShortLines (t.between said.shown.finished.layout new)) asked.4 short))
-      read;
+      (subst (λ (t : Task). HasShortLines (t.between said.shown.finished.layout new)) asked.4 short)) read;
   tangled = λ bytes count why. why;
   far = λ bytes soup sum mesh far. record {
     task = far.task;
@@ -310,9 +299,6 @@ module _ (fit : AnyFit) (bytes : Bytes) (cut : CutSoup) (asides : Asides) {read 
     (said : asides_in fit bytes read ≡ Ok given) (each : AreKeptMarks read.faces given.kept) (same : cut.soup ≡ read)
     (laid : IsMeshLayout cut.soup.faces cut.layout)
     (chosen : IsChosenLayout cut.soup.faces asides.kept fit.patches cut.layout) where
-  parts : asides ≡ given
-  parts i = record { kept = kept i; wishes = wishes i }
-
   full : IsFullCut cut.soup.faces chosen.0
   full = chosen_cut_law cut.soup.faces asides.kept fit.patches chosen.0 (manifold_of cut laid)
       (rw (same, kept) each) chosen.1
@@ -353,9 +339,8 @@ size_aimed {edge} {floor} near few = record {
 
 -- Its task is asked for: the motorcycle graph has one layout.
 pub size_at : (edge : ℤ) (floor : ℕ) (bytes : Bytes) (cut : CutSoup) → IsMeshLayout cut.soup.faces cut.layout
-    → IsTracedLayout cut.soup.faces cut.layout
-    → IsAimedAt (Edge edge) (AsksForSize edge floor) (AsksForNearSize edge floor) bytes cut
-    (size_task edge floor cut.soup)
+    → IsTracedLayout cut.soup.faces cut.layout → IsAimedAt (Edge edge) (AsksForSize edge floor)
+    (AsksForNearSize edge floor) bytes cut (size_task edge floor cut.soup)
 size_at edge floor bytes cut laid traced = record {
   asked = refl;
   on = traced;

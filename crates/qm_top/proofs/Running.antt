@@ -78,9 +78,8 @@ lay_out_not_refused h1 h2 h3 = search rules
 -- ---- What a refusal of a task says of the answer, where its layouts say so.
 
 task_says : {asks : Asks} {bytes : Bytes} {soup : FaceSet} (Says : Answer → Type 0) (answer : Answer)
-    → IsMeshText bytes soup → ((task : Task) (layout : Layout) → HasTask asks bytes task layout
-    → RefusesLayout task.wish layout task.settings task.rising answer → Says answer) → RefusesTask asks bytes answer
-    → Says answer
+    → IsMeshText bytes soup → ((task : Task) (layout : Layout) → HasTask asks bytes task layout → RefusesLayout
+    task.wish layout task.settings task.rising answer → Says answer) → RefusesTask asks bytes answer → Says answer
 task_says Says answer mesh each (inl none) = absurd (mesh_not_refused answer mesh none)
 task_says Says answer mesh each (inr (task, layout, has, why)) = each task layout has why
 
@@ -135,9 +134,8 @@ fit_says Says {fit} {bytes} answer has says why = elim why [
 
 -- A mesh of a size that is a manifold is refused for its layouts alone.
 bench_says : (Says : Answer → Type 0) (size : ℕ) (answer : Answer) → IsManifold (bench_faces size)
-    → ((layout : Layout) → IsTracedLayout (bench_faces size) layout
-    → RefusesLayout old_lengths layout bench_settings Never answer → Says answer) → RefusesToBench size answer
-    → Says answer
+    → ((layout : Layout) → IsTracedLayout (bench_faces size) layout → RefusesLayout old_lengths layout bench_settings
+    Never answer → Says answer) → RefusesToBench size answer → Says answer
 bench_says Says size (NotManifold place) manifold each why = absurd (why.1 manifold)
 bench_says Says size _ manifold each (layout, cut, why) = each layout cut why
 
@@ -233,8 +231,7 @@ ends_so Says command input out answer held holds done says why = search (rules, 
 -- Good bytes are done.
 pub completes : (command : Command) (input out : Change) (answer : Answer) → Cause command input out answer
     → IsGood command input.told → (answer ≡ Done) ⊎ WasShort input out answer
-completes command input out answer why good =
-    ends_so (λ a. a ≡ Done) command input out answer good.bytes good.held refl
+completes command input out answer why good = ends_so (λ a. a ≡ Done) command input out answer good.bytes good.held refl
     (λ refusal bad. absurd (not_both command good.bytes refusal good.taken bad)) why
 
 -- A network that is not too tangled gets least lengths.

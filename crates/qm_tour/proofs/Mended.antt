@@ -33,12 +33,7 @@ still_least {keys} at value {k} {key} least other =
     (λ e. other (ap parent (sym e) ∙ is)) in
     record {
       low = λ child low is. omega (arith, same child is, least.low child (omega arith) is);
-      from = (
-        least.from.0,
-        omega (arith, least.from.1),
-        least.from.2,
-        same least.from.0 least.from.2 ∙ least.from.3,
-      );
+      from = (least.from.0, omega (arith, least.from.1), least.from.2, same least.from.0 least.from.2 ∙ least.from.3);
     }
 
 -- A new leaf leaves all nodes but that above it in order.
@@ -86,10 +81,9 @@ leaves_kept {first} {node} value {old} {keys} same low = record {
 -- The list of leaves with a new key.
 pub leaf_set : {first : ℕ} (keys : List ℕ) {new : List ℕ} (leaf value : ℕ)
     → HasSameLeaves first (set keys (first + leaf) value) new → drop first new ≡ set (drop first keys) leaf value
-leaf_set {first} keys {new} leaf value same = ext_get_or 0 (drop first new) (drop first changed)
-    (length-drop first new ∙ (ap (λ n. n - first) same.size ∙ sym (length-drop first changed)))
-    (λ k low. get_or-drop first new k 0 ∙ (same.each (first + k) (omega arith)
-    ∙ sym (get_or-drop first changed k 0))) ∙ drop-set-add first keys leaf value
+leaf_set {first} keys {new} leaf value same = ext_get_or 0 (drop first new) (drop first changed) (length-drop first new
+    ∙ (ap (λ n. n - first) same.size ∙ sym (length-drop first changed))) (λ k low. get_or-drop first new k 0
+    ∙ (same.each (first + k) (omega arith) ∙ sym (get_or-drop first changed k 0))) ∙ drop-set-add first keys leaf value
   where
     changed : List ℕ
     changed = set keys (first + leaf) value

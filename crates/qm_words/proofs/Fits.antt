@@ -66,8 +66,7 @@ prefix_is first words uses is = by_behind (uses_of words) refl uses is
 -- A word with an `=` that is the use of an option.
 pub pair_long : (word : Word) (one : Use) → attached word ≡ with_hyphens one → list_any is_equals word ≡ true
     → (long_of word ≡ Some (one.name, Some one.value)) × (rest : Word) × (byte : ℕ) × (word ≡ dashed (byte ∷ rest))
-pair_long word one is some =
-    let cut = cut_from word one.name (ap (λ (u : Use). u.name) is) in
+pair_long word one is some = let cut = cut_from word one.name (ap (λ (u : Use). u.name) is) in
     by_rest cut.0 cut.1
   where
     by_rest : (rest : Word) → word ≡ dashed rest → (long_of word ≡ Some (one.name, Some one.value)) × (bytes : Word)
@@ -171,9 +170,8 @@ module _ (names : Words) (word : Word) where
       (ap (λ (u : Use). u.value ∷ tail) at.head) at.behind (rw at.is at plain) (rw at.is at good) named
       (ap (λ (u : Use). u.name) at.head) none)
 
-  rests_pair : (words : Words) → Rests names words → list_any is_equals word ≡ true
-      → (uses : Uses) (last : Option Use) (rest : Uses)
-      → IsKnown names last → uses_of (word ∷ words) ≡ Some (map with_hyphens rest) → are_plain rest ≡ true
+  rests_pair : (words : Words) → Rests names words → list_any is_equals word ≡ true → (uses : Uses) (last : Option Use)
+      (rest : Uses) → IsKnown names last → uses_of (word ∷ words) ≡ Some (map with_hyphens rest) → are_plain rest ≡ true
       → Good names (all_of uses last ++ rest) → Fit names (word ∷ words) (all_of uses last ++ rest) (rests uses last)
   rests_pair words later some uses last rest known spelled plain good =
       let at = prefix_is (attached word) words rest (sym (uses_pair word words some) ∙ spelled) in

@@ -3,23 +3,20 @@ use Rattle.std.proofs.Common.{Bool, List, None, Some, ap₂, arith, cond, false,
 use Rattle.std.proofs.Common.{[], ap, inr, map, not, sym, ◌∙◌, ◌∷◌, ◌≡◌, ◌≤◌}
 use Rattle.std.proofs.lemmas.Bool.{and_parts, cases_Bool, eq-eqb, false_from_ne_true, false≢true, not-false, true≢false}
 use Rattle.std.proofs.lemmas.Bool.{and_from, eqb-true, or_parts, or_right, or_from}
-use Rattle.std.proofs.lemmas.Slice.Eq.{bytes_eq-Decides}
-use Rattle.std.specs.{List.list_all, List.list_any, Str.bytes_eq}
 use Rattle.clap.specs.Faults.{built_fault, default_fault, defaults_fault, fault_of, settle_fault, walk_fault}
-use Rattle.clap.specs.Walk.{Row, Rule, first_of, has_row, nothing_held, rows_after, with_default}
-use Rattle.clap.specs.{declared.error.kind.ErrorKind.TheVariants.MissingRequiredArgument}
 use Rattle.clap.specs.{declared.parser.matches.Found.Found, Kinds.Kinds, Kinds.or_else, Simple.App, Simple.matches_of}
-use Rattle.clap.specs.{Takes.is_given}
+use Rattle.clap.specs.Walk.{Row, Rule, first_of, has_row, nothing_held, rows_after, with_default}
+use Rattle.clap.specs.declared.error.kind.ErrorKind.TheVariants.{MissingRequiredArgument}
 use Rattle.def_run.specs.Options.{AreOptions, are_once, attached, count_of, dashed, is_equals, is_of, separate, uses_of}
-use Rattle.def_run.specs.Options.{Uses, Use}
 use Rattle.qm_words.proofs.Uses.{count, count_given, count_hyphens, either_way, first_value_of, given_count, rows_of}
-use Rattle.qm_words.proofs.Uses.{Good}
 use Rattle.qm_words.proofs.Words.{full_rule, plain_view, uses_flag, uses_pair, with_hyphens, built_is, rules, shape}
-use Rattle.qm_words.proofs.{Plain.Passes, Plain.both_quiet, Plain.end, Plain.end_rows, Plain.quiet_both, Plain.rests}
-use Rattle.qm_words.proofs.{Fits.pair_long, Fits.prefix_is, Fits.fits, Sound.sound}
+use Rattle.qm_words.proofs.Plain.{Passes, both_quiet, end, end_rows, quiet_both, rests}
+use Rattle.qm_words.proofs.Fits.{pair_long, prefix_is, fits}
 use Rattle.qm_words.specs.Parsing.{Reads, is_end, is_known, is_plain, options_app}
-use Rattle.clap.proofs.{FaultLemmas.leaf_fault, WalkLemmas.first_value-rows}
-use Rattle.def_text.specs.Types.{Word, Words}
+use Rattle.{std.proofs.lemmas.Slice.Eq.bytes_eq-Decides, std.specs.List.list_all, std.specs.List.list_any}
+use Rattle.{std.specs.Str.bytes_eq, clap.specs.Takes.is_given, def_run.specs.Options.Uses, def_run.specs.Options.Use}
+use Rattle.{qm_words.proofs.Uses.Good, qm_words.proofs.Sound.sound, clap.proofs.FaultLemmas.leaf_fault}
+use Rattle.{clap.proofs.WalkLemmas.first_value-rows, def_text.specs.Types.Word, def_text.specs.Types.Words}
 use Rattle.clap.specs.Walk as clap
 
 -- No option has a default.
@@ -46,9 +43,8 @@ abbrev missing : (names : Words) (rows : List Row) → Kinds
 missing names rows = cond (list_any (is_missing rows) (rules names)) (MissingRequiredArgument ∷ []) []
 
 -- The faults of the whole: those of the walk, and of options that are missing at its end.
-fault_is : (names words : Words)
-    → fault_of (options_app names) words
-    ≡ or_else (walk_fault (shape names) [] (rests [] None) words)
+fault_is : (names words : Words) → fault_of (options_app names) words ≡ or_else
+    (walk_fault (shape names) [] (rests [] None) words)
     (or_else [] (or_else (settle_fault (rules names) false (end names (rests [] None) words))
     (or_else (defaults_fault (end_rows names (rests [] None) words) (rules names))
     (missing names (fold with_default (end_rows names (rests [] None) words) (rules names))))))
@@ -70,12 +66,11 @@ of_passes : (names words : Words) → Passes names words (rests [] None)
     → missing names (end_rows names (rests [] None) words) ≡ [] → fault_of (options_app names) words ≡ []
 of_passes names words passes given =
     let from = rests [] None in
-    fault_is names words
-    ∙ quiet_both (walk_fault (shape names) [] from words) _ passes.walked
+    fault_is names words ∙ quiet_both (walk_fault (shape names) [] from words) _ passes.walked
     (quiet_both (settle_fault (rules names) false (end names from words)) _ passes.settled
     (quiet_both (defaults_fault (end_rows names from words) (rules names)) _
-    (no_defaults names (end_rows names from words))
-    (ap (missing names) (same_rows names (end_rows names from words)) ∙ given)))
+    (no_defaults names (end_rows names from words)) (ap (missing names) (same_rows names (end_rows names from words))
+    ∙ given)))
 
 -- Each option was given exactly where none is missing.
 none_missing : (names : Words) (rows : List Row) → missing names rows ≡ [] → list_any (is_missing rows) (rules names)
@@ -83,9 +78,8 @@ none_missing : (names : Words) (rows : List Row) → missing names rows ≡ [] �
 none_missing names rows quiet =
     false_from_ne_true (list_any (is_missing rows) (rules names)) (λ some. cc (rw some at quiet))
 
-once_each : (names : Words) (uses : Uses) → ((name : Word) → count name uses ≤ 1)
-    → list_any (is_missing (rows_of uses)) (rules names) ≡ false
-    → list_all (λ name. count_of name (map with_hyphens uses) == 1) names ≡ true
+once_each : (names : Words) (uses : Uses) → ((name : Word) → count name uses ≤ 1) → list_any (is_missing (rows_of uses))
+    (rules names) ≡ false → list_all (λ name. count_of name (map with_hyphens uses) == 1) names ≡ true
 once_each [] uses once given = refl
 once_each (name ∷ names) uses once given =
     let parts = or_parts (not (is_given name (rows_of uses))) _ given in
@@ -106,9 +100,8 @@ known_names : (names : Words) (name : Word) → list_any (λ n. bytes_eq name n)
 known_names [] name = refl
 known_names (n ∷ names) name = ap₂ (λ a b. a || b) (either_way name n) (known_names names name)
 
-known_uses : (names : Words) (uses : Uses)
-    → list_all (λ (one : Use). list_any (λ name. is_of name one) names) (map with_hyphens uses)
-    ≡ list_all (λ (one : Use). is_known names one.name) uses
+known_uses : (names : Words) (uses : Uses) → list_all (λ (one : Use). list_any (λ name. is_of name one) names)
+    (map with_hyphens uses) ≡ list_all (λ (one : Use). is_known names one.name) uses
 known_uses names [] = refl
 known_uses names (one ∷ uses) = ap₂ (λ a b. a && b) (known_names names one.name) (known_uses names uses)
 
@@ -123,9 +116,8 @@ unknown_count names (one ∷ uses) name known not_there =
       | inr other ↦ rw other (omega (arith, unknown_count names uses name parts.1 not_there))
     ]
 
-known_count : (names : Words) (uses : Uses) (name : Word)
-    → list_all (λ n. count_of n (map with_hyphens uses) == 1) names ≡ true → is_known names name ≡ true
-    → count name uses ≡ 1
+known_count : (names : Words) (uses : Uses) (name : Word) → list_all (λ n. count_of n (map with_hyphens uses) == 1)
+    names ≡ true → is_known names name ≡ true → count name uses ≡ 1
 known_count [] uses name all known = absurd (false≢true known)
 known_count (n ∷ names) uses name all known =
     let parts = and_parts (count_of n (map with_hyphens uses) == 1) _ all in

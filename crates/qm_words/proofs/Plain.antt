@@ -48,8 +48,7 @@ each_plain names (one ∷ uses) all once plain =
     let own = name_in names one parts.0 in
     let first = plain own.0 own.1 (rw own.2 (omega arith)) in
     and_from (is_plain one.value) _ (rw own.2 at first) (each_plain names uses parts.1
-    (λ name known. omega (arith, once name known))
-    (λ name known some. elim (cases_Bool (is_of name one)) [
+    (λ name known. omega (arith, once name known)) (λ name known some. elim (cases_Bool (is_of name one)) [
       | inl is ↦ absurd (omega (arith, rw is at (once name known)))
       | inr other ↦ rw other at (plain name known (rw other (omega arith)))
     ]))
@@ -111,8 +110,7 @@ pub no_settings : (words : Words) (settings : Settings) (auto : Bool) → Refuse
     → HasSettings words settings auto → ⊥
 no_settings words settings auto refuses has =
     let values = has.values in
-    refuses has.uses has.options
-    (values_plain remesh_options words has.uses has.options
+    refuses has.uses has.options (values_plain remesh_options words has.uses has.options
     (and_from _ _ (ap is_plain values.scaled ∙ digits_plain (decimal settings.p) (47 ∷ decimal settings.q)
     (decimal_digits settings.p (omega arith)) refl)
     (and_from _ _ (ap is_plain values.bounded ∙ floor_plain settings.floor auto values.in_range.floor)
@@ -129,9 +127,8 @@ edge_plain (byte ∷ word) edge is = ap not (positive (byte == 45) (rounded_size
     positive false n edge same low = refl
 
 pub no_edge : (words : Words) (edge : ℤ) (floor : ℕ) → Refuses size_options words → HasEdge words edge floor → ⊥
-no_edge words edge floor refuses has = refuses has.uses has.options
-    (values_plain size_options words has.uses has.options
-    (and_from _ _ (edge_plain (value_of (codes "edge") has.uses) edge has.length)
+no_edge words edge floor refuses has = refuses has.uses has.options (values_plain size_options words has.uses
+    has.options (and_from _ _ (edge_plain (value_of (codes "edge") has.uses) edge has.length)
     (and_from _ _ (ap is_plain has.least.written ∙ number_plain floor (omega arith)) refl)))
 
 -- The words of a fit begin with letters.
@@ -154,9 +151,7 @@ aim_plain word (Edge edge) is = ap is_plain is.1
 aim_plain word Wishes is = ap is_plain is
 
 pub no_fit : (words : Words) (fit : Fit) → Refuses fit_options words → HasFitOptions words fit → ⊥
-no_fit words fit refuses has =
-    refuses has.uses has.options
-    (values_plain fit_options words has.uses has.options
+no_fit words fit refuses has = refuses has.uses has.options (values_plain fit_options words has.uses has.options
     (and_from _ _ (ap is_plain has.values.kept ∙ keep_plain fit.keep)
     (and_from _ _ (ap is_plain has.values.cut ∙ patches_plain fit.patches)
     (and_from _ _ (aim_plain _ fit.aim has.values.aimed)
@@ -172,10 +167,8 @@ no_cut words keep patches refuses has = refuses has.uses has.options
 
 pub no_grids : (words : Words) (keep : Keep) (patches : Patches) (by : ℕ) → Refuses grids_options words
     → HasGridsOptions words keep patches by → ⊥
-no_grids words keep patches by refuses has =
-    refuses has.uses has.options
-    (values_plain grids_options words has.uses has.options
-    (and_from _ _ (ap is_plain has.kept ∙ keep_plain keep)
+no_grids words keep patches by refuses has = refuses has.uses has.options (values_plain grids_options words has.uses
+    has.options (and_from _ _ (ap is_plain has.kept ∙ keep_plain keep)
     (and_from _ _ (ap is_plain has.cut ∙ patches_plain patches)
     (and_from _ _ (ap is_plain has.count.written ∙ number_plain by (omega arith)) refl))))
 

@@ -3,18 +3,17 @@ use Rattle.std.proofs.Common.{List, None, Option, Some, append-nil, append_assoc
 use Rattle.std.proofs.Common.{[], ap, inl, inr, map, sym, true, ℕ, ◌++◌, ◌∙◌, ◌∷◌, ◌≡◌}
 use Rattle.std.proofs.lemmas.Bool.{cases_Bool, or_parts, true≢false}
 use Rattle.clap.specs.declared.error.kind.ErrorKind.TheVariants.{InvalidValue, UnknownArgument}
-use Rattle.clap.specs.{Walk.Row, Walk.Walk, Walk.idle, Walk.option, Walk.settled_rows, Walk.used, Walk.walked}
 use Rattle.clap.specs.{Faults.use_fault, Kinds.Kinds, Kinds.or_else, Lexer.long_of}
+use Rattle.clap.specs.Walk.{Row, Walk, idle, option, settled_rows, used, walked}
 use Rattle.def_run.specs.Options.{Use, Uses, attached, dashed, is_equals, separate, use_in_front, uses_of}
 use Rattle.qm_words.proofs.Words.{flag_walk, garbled_fault, garbled_value_walk, short_fault, stray_fault, unknown_fault}
 use Rattle.qm_words.proofs.Words.{fault_at, flag_fault, pair_fault, pair_walk, settle, stands, value_walk, waits_fault}
 use Rattle.qm_words.proofs.Words.{uses_flag, uses_pair, with_hyphens, by_id, by_long, full_rule, no_long, rules, View}
-use Rattle.qm_words.proofs.Words.{view}
 use Rattle.qm_words.proofs.Uses.{IsKnown, fresh_count, fresh_from, good_more, pending, rows_of, same_name, used_fresh}
 use Rattle.qm_words.proofs.Uses.{settled, Good, all_of}
 use Rattle.qm_words.proofs.Plain.{Passes, both_quiet, end_rows, first_passes, rests, stops, waits}
 use Rattle.qm_words.proofs.Words.View.{dashes, flag, plain, short, pair}
-use Rattle.qm_words.specs.Parsing.{is_end, is_known}
+use Rattle.{qm_words.proofs.Words.view, qm_words.specs.Parsing.is_end, qm_words.specs.Parsing.is_known}
 use Rattle.{std.specs.List.list_any, std.specs.Str.chars, def_text.specs.Types.Words, def_text.specs.Types.Word}
 
 -- From this state, behind some uses, the words are more uses.

@@ -2,20 +2,18 @@
 use Rattle.std.proofs.Common.{Bool, List, None, Some, ap₂, codes, false, inl, inr, map, not, refl, true, ◌&&◌, ◌∙◌, ◌∷◌}
 use Rattle.std.proofs.Common.{[], ap, ℕ, ◌≡◌, Option, arith, drop, suc, sym, take, ◌+◌, ◌==◌}
 use Rattle.std.proofs.lemmas.Bool.{cases_Bool, false≢true, true≢false, and_from, eqb-true, not-true, or_parts}
-use Rattle.std.proofs.lemmas.Slice.Eq.{bytes_eq-Decides}
-use Rattle.std.specs.{List.list_all, List.list_any, List.after_first, List.before_first, List.position_or_len}
-use Rattle.std.specs.{Str.bytes_eq, Str.chars, Prelude.slice_get}
+use Rattle.std.specs.List.{list_all, list_any, after_first, before_first, position_or_len}
 use Rattle.clap.specs.Simple.{Shape, built, filled_from, is_buildable, is_ready, is_ready_leaf, is_simple, new_shape}
-use Rattle.clap.specs.Simple.{App}
+use Rattle.clap.specs.{Simple.App, declared.builder.action.ArgAction.TheVariants.Set, Lexer.short_of, Lexer.long_of}
 use Rattle.clap.specs.Walk.{Rule, arg_by_id, arg_by_index, arg_by_long, arg_by_short, is_early_multiple, Held, Waiting}
 use Rattle.clap.specs.Walk.{bundle_met, option, positional, settled_rows, walked, Row, Walk, idle, used}
 use Rattle.clap.specs.Faults.{is_free_app, is_simple_and_free, flags_fault, settle_fault, turn_fault, use_fault}
 use Rattle.clap.specs.declared.error.kind.ErrorKind.TheVariants.{InvalidValue, UnknownArgument}
-use Rattle.clap.specs.{declared.builder.action.ArgAction.TheVariants.Set, Lexer.short_of, Lexer.long_of, Kinds.Kinds}
-use Rattle.clap.specs.{Kinds.or_else}
 use Rattle.qm_words.specs.Parsing.{is_known, option_rule, options_app, is_end, is_plain}
-use Rattle.def_text.specs.Types.{Word, Words}
 use Rattle.def_run.specs.Options.{Use, attached, dashed, is_equals, separate, use_in_front, uses_of}
+use Rattle.{std.proofs.lemmas.Slice.Eq.bytes_eq-Decides, std.specs.Str.bytes_eq, std.specs.Str.chars}
+use Rattle.{std.specs.Prelude.slice_get, clap.specs.Kinds.Kinds, clap.specs.Kinds.or_else, def_text.specs.Types.Word}
+use Rattle.def_text.specs.Types.{Words}
 use Rattle.clap.specs.declared.builder.value_parser.ValueParser.TheVariants as vp
 
 -- The rule of an option in a command that is built.
@@ -133,9 +131,8 @@ module _ (names : Words) (rows : List Row) (pending : Pending) where
   flag_fault positional word name e l k = rw (e, l, k) refl
 
   pub flag_walk : (waiting : Waiting) (word name : Word) → is_end word ≡ false → long_of word ≡ Some (name, None)
-      → arg_by_long (rules names) name ≡ Some (full_rule name)
-      → walked (rules names) [] (stands rows pending waiting) word ≡ stands (settled_rows (rules names) pending rows)
-      (Some (name, [])) (option name)
+      → arg_by_long (rules names) name ≡ Some (full_rule name) → walked (rules names) [] (stands rows pending waiting)
+      word ≡ stands (settled_rows (rules names) pending rows) (Some (name, [])) (option name)
   unfolding walked
   flag_walk idle word name e l k = rw (e, l, k) refl
   flag_walk (option id) word name e l k = rw (e, l, k) refl
@@ -143,10 +140,9 @@ module _ (names : Words) (rows : List Row) (pending : Pending) where
 
   -- `--name=value`
   pub pair_fault : (waiting : Waiting) (word name value : Word) → is_end word ≡ false
-      → long_of word ≡ Some (name, Some value)
-      → arg_by_long (rules names) name ≡ Some (full_rule name)
-      → fault_at names (stands rows pending waiting) word
-      ≡ or_else (or_else (settle names rows pending) (use_fault false (full_rule name) (value ∷ [])
+      → long_of word ≡ Some (name, Some value) → arg_by_long (rules names) name ≡ Some (full_rule name)
+      → fault_at names (stands rows pending waiting) word ≡ or_else
+      (or_else (settle names rows pending) (use_fault false (full_rule name) (value ∷ [])
       (settled_rows (rules names) pending rows))) []
   pair_fault idle word name value e l k = rw (e, l, k) refl
   pair_fault (option id) word name value e l k = rw (e, l, k) refl
@@ -296,9 +292,7 @@ view (x ∷ y ∷ ys) = elim (cases_Bool (x == 45)) [
 pub plain_view : (word : Word) → is_plain word ≡ true → (long_of word ≡ None) × (short_of word ≡ None)
     × (is_end word ≡ false)
 plain_view [] begins = (refl, refl, refl)
-plain_view (x ∷ xs) begins =
-    let other = not-true (x == 45) begins in
-    (rw other refl, rw other refl, rw other refl)
+plain_view (x ∷ xs) begins = let other = not-true (x == 45) begins in (rw other refl, rw other refl, rw other refl)
 
 -- A word with an `=` is one use, whatever stands behind it.
 pub uses_pair : (word : Word) (words : Words) → list_any is_equals word ≡ true → uses_of (word ∷ words)

@@ -12,13 +12,11 @@ pub pieces_are : (rising : Rising) (soup : FaceSet) (layout : Layout) (shares : 
     → new ≡ record { soup = soup; layout = layout; lengths = xs; shares = shares } → xs ≡ (used certificates).x
     → said ≡ text_of (certificate_lines rising certificates)
     → head ++ (canonical_text (spaced_soup new.soup new.layout new.shares (lengths_in new.lengths)) ++
-    (between ++ said))
-    ≡ head ++ text_behind_head between rising soup layout shares certificates
-pieces_are rising soup layout shares certificates new xs head between said is lengths lines =
-    ap (λ (n : Regrid). head
-    ++ (canonical_text (spaced_soup n.soup n.layout n.shares (lengths_in n.lengths)) ++ (between ++ said))) is
-    ∙ ap₂ (λ (ys : List ℕ) (end : Bytes). head ++ (canonical_text (spaced_soup soup layout shares (lengths_in ys))
-    ++ (between ++ end))) lengths lines
+    (between ++ said)) ≡ head ++ text_behind_head between rising soup layout shares certificates
+pieces_are rising soup layout shares certificates new xs head between said is lengths lines
+    = ap (λ (n : Regrid). head ++ (canonical_text (spaced_soup n.soup n.layout n.shares (lengths_in n.lengths)) ++
+    (between ++ said))) is ∙ ap₂ (λ (ys : List ℕ) (end : Bytes). head ++
+    (canonical_text (spaced_soup soup layout shares (lengths_in ys)) ++ (between ++ end))) lengths lines
 
 -- A new mesh of these.
 abbrev pub with_lengths : (soup : FaceSet) (layout : Layout) (shares : Option (List ℕ)) (lengths : List ℕ) → Regrid

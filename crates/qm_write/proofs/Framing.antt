@@ -9,8 +9,7 @@ module _ (task : Task) (framed : Framed) (soup : FaceSet) (layout : Layout) (is 
   where
     pieces_are : framed_text framed soup layout ≡ (task.head ++ 10 ∷ []) ++ text_behind_head
         (task.between layout (lengths_in (used (certificates_of framed.remesh.certs)).x)) task.rising soup layout
-        task.shares
-        (certificates_of framed.remesh.certs)
+        task.shares (certificates_of framed.remesh.certs)
     pieces_are = λ i. is.head i ++ text_behind_head (is.between i) (is.rising i) soup layout (is.shares i)
         (certificates_of framed.remesh.certs)
 

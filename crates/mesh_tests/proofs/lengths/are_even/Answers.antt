@@ -5,15 +5,14 @@ use Rattle.{def_cut.specs.Grids.rectangle, def_remesh.specs.NewPoints.lengths_in
 use Rattle.mesh_tests.proofs.lengths.are_even.Goals as goal
 
 pub is_even-requires-clause-patch : goal.is_even-requires-clause-patch
-is_even-requires-clause-patch c =
-    omega (
-      arith,
-      c.loop-patch-test.true,
-      c.len-patch-end.ensures,
-      c.layout.result.now.patches.ok.0,
-      ap (λ (p : Layout). length p.patches) c.layout.ensures.layout,
-      length-map c.layout.result.now.patches.items rectangle,
-    )
+is_even-requires-clause-patch c = omega (
+  arith,
+  c.loop-patch-test.true,
+  c.len-patch-end.ensures,
+  c.layout.result.now.patches.ok.0,
+  ap (λ (p : Layout). length p.patches) c.layout.ensures.layout,
+  length-map c.layout.result.now.patches.items rectangle,
+)
 
 pub loop-patch-preserved : goal.loop-patch-preserved
 loop-patch-preserved c patch low = elim (cases_lt patch c.loop-patch.patch) [
@@ -25,13 +24,12 @@ loop-patch-preserved c patch low = elim (cases_lt patch c.loop-patch.patch) [
 ]
 
 pub returns : goal.returns
-returns c on patch low = c.loop-patch.invariant patch
-    (omega (
-      arith,
-      low,
-      c.loop-patch-test.false,
-      c.len-patch-end.ensures,
-      c.layout.result.now.patches.ok.0,
-      ap (λ (p : Layout). length p.patches) c.layout.ensures.layout,
-      length-map c.layout.result.now.patches.items rectangle,
-    ))
+returns c on patch low = c.loop-patch.invariant patch (omega (
+  arith,
+  low,
+  c.loop-patch-test.false,
+  c.len-patch-end.ensures,
+  c.layout.result.now.patches.ok.0,
+  ap (λ (p : Layout). length p.patches) c.layout.ensures.layout,
+  length-map c.layout.result.now.patches.items rectangle,
+))

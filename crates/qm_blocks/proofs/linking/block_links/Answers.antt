@@ -23,8 +23,7 @@ returns c =
     let table = c.args.spotted.now.table.now in
     let empty : c.new-links.result.items ≡ [] = search rules in
     c.in_ok-push_links-4.ensures ∙ (λ i. (c.in_ok-push_links-3.ensures ∙ (λ j. (c.in_ok-push_links-2.ensures
-    ∙ (λ k. (c.in_ok-push_links.ensures
-    ∙ (λ h. empty h ++ links_on table x (c.name_of.ensures south refl h) (c.side_of.ensures h))) k
-    ++ links_on table x (c.name_of-2.ensures east refl k) (c.side_of-2.ensures k))) j
-    ++ links_on table x (c.name_of-3.ensures north refl j) (c.side_of-3.ensures j))) i
-    ++ links_on table x (c.name_of-4.ensures west refl i) (c.side_of-4.ensures i))
+    ∙ (λ k. (c.in_ok-push_links.ensures ∙ (λ h. empty h ++ links_on table x (c.name_of.ensures south refl h)
+    (c.side_of.ensures h))) k ++ links_on table x (c.name_of-2.ensures east refl k) (c.side_of-2.ensures k))) j ++
+    links_on table x (c.name_of-3.ensures north refl j) (c.side_of-3.ensures j))) i ++ links_on table x
+    (c.name_of-4.ensures west refl i) (c.side_of-4.ensures i))

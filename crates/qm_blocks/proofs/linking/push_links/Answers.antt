@@ -19,10 +19,9 @@ loop-used-preserved c =
     let k = c.loop-used.used-index in
     let x = lengths_in c.args.spotted.now.measured.x.now in
     let long = ap (λ (link : Link). link.len) c.link_at-link.ensures in
-    let here : c.link_at-link.result ≡ link_on c.args.spotted.now.table.now x c.args.name side k =
-    c.link_at-link.ensures
-    ∙ (λ i. link_from c.args.spotted.now.table.now x ((sym (read_used side k c.loop-used-test.true)) i) c.args.name
-    (c.loop-used.invariant.from i)) in
+    let here : c.link_at-link.result ≡ link_on c.args.spotted.now.table.now x c.args.name side k
+    = c.link_at-link.ensures ∙ (λ i. link_from c.args.spotted.now.table.now x
+    ((sym (read_used side k c.loop-used-test.true)) i) c.args.name (c.loop-used.invariant.from i)) in
     record {
       pushed = list_more (link_on c.args.spotted.now.table.now x c.args.name side) k c.args.links.now.items
           c.loop-used.links.items c.push.new.self.items c.link_at-link.result c.loop-used.invariant.pushed

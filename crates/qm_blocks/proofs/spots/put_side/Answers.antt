@@ -16,9 +16,12 @@ overflow_cast-block c =
     omega (arith, c.requires.block, c.args.measured.now.measured.few)
 
 pub returns : goal.returns
-returns c way is =
-    side_put (layout_of c.args.measured.now.t.now) (lengths_in c.args.measured.now.x.now) c.args.block way
-    c.side_of.result.now c.name_of.result c.args.table.now c.put_uses.new.table
+returns c way is = side_put (layout_of c.args.measured.now.t.now) (lengths_in c.args.measured.now.x.now) c.args.block
+    way c.side_of.result.now c.name_of.result c.args.table.now c.put_uses.new.table
     (c.side_of.ensures ∙ ap (arcs_on (layout_of c.args.measured.now.t.now) c.args.block) (sym is))
-    (c.name_of.ensures way is)
-    (omega (arith, c.requires.block, length-map c.args.measured.now.t.now.patches.items rectangle)) c.put_uses.ensures
+    (c.name_of.ensures way is) (omega (
+      arith,
+      c.requires.block,
+      length-map c.args.measured.now.t.now.patches.items
+          rectangle,
+    )) c.put_uses.ensures

@@ -8,8 +8,7 @@ loop-block-preserved c =
     let l = gluing_of (layout_of c.args.measured.now.t.now) in
     let x = lengths_in c.args.measured.now.x.now in
     let block = c.loop-block.block in
-    subst (HasSpots l x (IsBefore (block + 1)))
-    (sym (with_items_is c.loop-block.table c.put_block.new.table (c.put_block.auto.table ∙ c.deref_mut.ensures.len)))
-    (spots_more l x block c.loop-block.table.items c.put_block.new.table c.loop-block.invariant
-    (subst (λ old. HavePut l x (IsOnBlock block) old c.put_block.new.table) c.deref_mut.ensures.value
-    c.put_block.ensures))
+    subst (HasSpots l x (IsBefore (block + 1))) (sym (with_items_is c.loop-block.table c.put_block.new.table
+    (c.put_block.auto.table ∙ c.deref_mut.ensures.len))) (spots_more l x block c.loop-block.table.items
+    c.put_block.new.table c.loop-block.invariant (subst (λ old. HavePut l x (IsOnBlock block) old c.put_block.new.table)
+    c.deref_mut.ensures.value c.put_block.ensures))

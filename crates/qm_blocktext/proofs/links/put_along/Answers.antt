@@ -31,7 +31,6 @@ loop-at-preserved g c =
     let has : slice_get arcs at ≡ Some c.in-Some.arc = sym c.arc_at.ensures ∙ c.in-Some.is in
     let next : at + 1 ≡ suc at = omega arith in
     subst (g.T.Output.takes c.args.out.now c.put_line.new.out)
-    (sym (ap (λ (n : ℕ). arc_link_lines (take n links) arcs) next
-    ∙ (lines_at links arcs at _ c.in-Some.arc c.loop-at-test.true has).1))
-    (laws.takes_more _ _ _ (arc_link_lines (take at links) arcs) _ c.loop-at.invariant
+    (sym (ap (λ (n : ℕ). arc_link_lines (take n links) arcs) next ∙ (lines_at links arcs at _ c.in-Some.arc
+    c.loop-at-test.true has).1)) (laws.takes_more _ _ _ (arc_link_lines (take at links) arcs) _ c.loop-at.invariant
     (rw c.arc_link_of.ensures at c.in_ok-put_line.ensures.whole))

@@ -12,9 +12,8 @@ returns-in_err-put_point-clause-part g c =
     let laws = g.met.T.Output in
     let new = c.args.new.now in
     let here = rw (c.requires.even, c.point-v.ensures.number) at c.place_near.ensures.value in
-    of_error c.from_residual.result
-    (stops_at_number g.T.Output.takes g.T.Output.stops laws.stops_later laws.stops_before point_line
-    (place_in new c.args.block c.args.j) (width_in new c.args.block + 1) c.loop-i.i _ _ _
+    of_error c.from_residual.result (stops_at_number g.T.Output.takes g.T.Output.stops laws.stops_later
+    laws.stops_before point_line (place_in new c.args.block c.args.j) (width_in new c.args.block + 1) c.loop-i.i _ _ _
     (omega (arith, c.loop-i-test.true, c.rim-points.ensures.wide)) c.loop-i.invariant
     (subst (λ (p : Position). g.T.Output.stops c.loop-i.out c.put_point.new.out (point_line p)) here
     c.in_err-put_point.ensures.part))
@@ -23,9 +22,8 @@ pub loop-i-preserved : goal.loop-i-preserved
 loop-i-preserved g c =
     let here = rw (c.requires.even, c.point-v.ensures.number) at c.place_near.ensures.value in
     takes_number g.T.Output.takes g.met.T.Output.takes_more point_line (place_in c.args.new.now c.args.block c.args.j)
-    c.loop-i.i _ _ _ c.loop-i.invariant
-    (subst (λ (p : Position). g.T.Output.takes c.loop-i.out c.put_point.new.out (point_line p)) here
-    c.in_ok-put_point.ensures.whole)
+    c.loop-i.i _ _ _ c.loop-i.invariant (subst (λ (p : Position). g.T.Output.takes c.loop-i.out c.put_point.new.out
+    (point_line p)) here c.in_ok-put_point.ensures.whole)
 
 pub returns-clause-whole : goal.returns-clause-whole
 returns-clause-whole g c =

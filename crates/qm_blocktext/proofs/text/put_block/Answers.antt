@@ -36,9 +36,8 @@ own blocks block links low same is = ap (λ (v : Vec Link Global). v.items) (rw 
     ∙ sym (get_or-map (λ (v : Vec Link Global). v.items) blocks.links.items block links [] low)
 
 around : (blocks : Blocks) (block : ℕ) {cut : CutSoup} (t : TMesh) (four : List Side)
-    → block < length blocks.links.items
-    → cut ≡ record { soup = blocks.points.soup; layout = blocks.points.layout } → layout_of t ≡ cut.layout
-    → IsMeshLayout cut.soup.faces cut.layout → four ≡ get_or t.sides.items block four
+    → block < length blocks.links.items → cut ≡ record { soup = blocks.points.soup; layout = blocks.points.layout }
+    → layout_of t ≡ cut.layout → IsMeshLayout cut.soup.faces cut.layout → four ≡ get_or t.sides.items block four
     → arcs_of four ≡ arcs_around blocks.points.layout block
 around blocks block {cut} t four low of same laid read = arcs_round t cut.layout same laid.0 block
     (omega (arith, low, blocks.linked, ap (λ (k : CutSoup). length k.layout.patches) of)) four read ∙ ap
@@ -62,12 +61,10 @@ returns g c =
     let arcs = around blocks c.args.block c.layout-layout.result.now c.index.result.now c.requires
     c.cut.ensures c.layout-layout.ensures.layout c.layout-layout.ensures.laid c.index.ensures in
     record {
-      whole = on_ok_weaker c.put_links.result
-          (λ last. laws.takes_more _ _ _ _ (rest_of blocks c.args.block) c.in_ok-put_size.ensures.whole
-          (laws.takes_more _ _ _ _ (link_lines blocks c.args.block) c.in_ok-put_points.ensures.whole last))
-          (rw (links, arcs) at c.put_links.ensures.whole);
-      part = on_err_weaker c.put_links.result
-          (λ last. laws.stops_later _ _ _ _ (rest_of blocks c.args.block) c.in_ok-put_size.ensures.whole
-          (laws.stops_later _ _ _ _ (link_lines blocks c.args.block) c.in_ok-put_points.ensures.whole last))
-          (rw (links, arcs) at c.put_links.ensures.part);
+      whole = on_ok_weaker c.put_links.result (λ last. laws.takes_more _ _ _ _ (rest_of blocks c.args.block)
+          c.in_ok-put_size.ensures.whole (laws.takes_more _ _ _ _ (link_lines blocks c.args.block)
+          c.in_ok-put_points.ensures.whole last)) (rw (links, arcs) at c.put_links.ensures.whole);
+      part = on_err_weaker c.put_links.result (λ last. laws.stops_later _ _ _ _ (rest_of blocks c.args.block)
+          c.in_ok-put_size.ensures.whole (laws.stops_later _ _ _ _ (link_lines blocks c.args.block)
+          c.in_ok-put_points.ensures.whole last)) (rw (links, arcs) at c.put_links.ensures.part);
     }

@@ -5,9 +5,8 @@ use Rattle.qm_blocktext.specs.{Gridded.lines_in, declared.blocks.Blocks.Blocks}
 use Rattle.qm_blocktext.proofs.text.put_blocks.Goals as goal
 
 -- The first lines tell how many blocks there are.
-head_is : (blocks : Blocks) {n : ℕ} {bytes : Bytes} → n ≡ length blocks.links.items
-    → bytes ≡ head_lines blocks.chosen blocks.by n
-    → bytes ≡ head_lines blocks.chosen blocks.by (length blocks.points.layout.patches)
+head_is : (blocks : Blocks) {n : ℕ} {bytes : Bytes} → n ≡ length blocks.links.items → bytes ≡ head_lines blocks.chosen
+    blocks.by n → bytes ≡ head_lines blocks.chosen blocks.by (length blocks.points.layout.patches)
 head_is blocks same is = is ∙ ap (head_lines blocks.chosen blocks.by) (same ∙ blocks.linked)
 
 pub returns-in_err-put_line-clause-part : goal.returns-in_err-put_line-clause-part

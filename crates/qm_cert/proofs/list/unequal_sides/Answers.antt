@@ -8,8 +8,7 @@ invariant_of-sides-clause-few c = omega (arith, ap length c.deref.ensures.value,
 pub returns : goal.returns
 returns c =
     let lengths = c.args.lengths.now in
-    c.difference.ensures
-    ∙ (ap (λ xs. compared_verdict xs c.deref-2.result.now) c.deref.ensures.value
+    c.difference.ensures ∙ (ap (λ xs. compared_verdict xs c.deref-2.result.now) c.deref.ensures.value
     ∙ (ap (compared_verdict c.in_ok-plus.plus.items) c.deref-2.ensures.value
     ∙ compared_is (network lengths.net.whole.now) lengths.x.now c.in_ok-plus.plus.items c.in_ok-minus.minus.items
     c.in_ok-plus.ensures.sides c.in_ok-minus.ensures.sides))

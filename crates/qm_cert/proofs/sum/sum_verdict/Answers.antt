@@ -1,10 +1,9 @@
 use Rattle.std.proofs.Common.{◌≡◌, ℕ, ℤ, ◌<◌, ◌^◌, List, pos, ◌-ℤ◌, ◌*ℤ◌, sym, ◌∙◌, ap}
-use Rattle.std.proofs.lemmas.Int.{to_z-of_z}
+use Rattle.def_flow.specs.{Network.Network, Network.network, Admissible.deviation, Admissible.entries, Units.on_cost}
+use Rattle.qm_cert.proofs.Checked.{cost_is, checked_same, deviation_small, lows_lengths}
+use Rattle.{std.proofs.lemmas.Int.to_z-of_z, def_flow.specs.Gadget.lows}
 use lib.Signed.{mag}
 use mir.{Syntax.w128, Val.to_z, Val.of_z}
-use Rattle.def_flow.specs.{Network.Network, Network.network, Admissible.deviation, Admissible.entries, Units.on_cost}
-use Rattle.def_flow.specs.{Gadget.lows}
-use Rattle.qm_cert.proofs.Checked.{cost_is, checked_same, deviation_small, lows_lengths}
 use Rattle.qm_cert.proofs.sum.sum_verdict.Goals as goal
 
 -- A number of the type, written and read back.

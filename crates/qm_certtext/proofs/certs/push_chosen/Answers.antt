@@ -20,8 +20,7 @@ returns-in_ok-push_rounds-in-Risen c =
     ap (λ (certs : Certs). chosen_lines (certificates_of certs)) c.in-Risen.is
     ∙ sym (round_lines_are c.in-Risen.rounds.items (alone (lists_of cert)))
     ∙ ap (λ (rs : List Round). round_lines rs ++ said_by (lists_of cert)) (sym c.deref.ensures.value) in
-    on_ok_weaker c.push_cert-in-Risen.result
-    (λ is. is ∙ ap (λ (t : Bytes). t ++ cert_lines cert) c.in_ok-push_rounds-in-Risen.ensures
-    ∙ append_assoc old (text_of (round_lines rounds)) (cert_lines cert)
-    ∙ ap (λ (t : Bytes). old ++ t) (sym (text_both (round_lines rounds) (said_by (lists_of cert)))
-    ∙ ap text_of (sym lines))) c.push_cert-in-Risen.ensures
+    on_ok_weaker c.push_cert-in-Risen.result (λ is. is ∙ ap (λ (t : Bytes). t ++ cert_lines cert)
+    c.in_ok-push_rounds-in-Risen.ensures ∙ append_assoc old (text_of (round_lines rounds)) (cert_lines cert)
+    ∙ ap (λ (t : Bytes). old ++ t) (sym (text_both (round_lines rounds) (said_by (lists_of cert))) ∙ ap text_of
+    (sym lines))) c.push_cert-in-Risen.ensures

@@ -1,7 +1,6 @@
 use Rattle.qm_certtext.proofs.Cutting.{behind_is, not_stripped, prefix_bare, stripped}
-use Rattle.qm_certtext.specs.Cuts.{is_bare}
-use Rattle.std.proofs.{Common.◌++◌, Common.sym, Common.◌∙◌, Common.ap₂, Common.ap, Common.take, Common.ℕ}
-use Rattle.std.proofs.{lemmas.List.take-append-drop}
+use Rattle.std.proofs.Common.{◌++◌, sym, ◌∙◌, ap₂, ap, take, ℕ}
+use Rattle.{qm_certtext.specs.Cuts.is_bare, std.proofs.lemmas.List.take-append-drop}
 use Rattle.qm_certtext.proofs.head.cut_word.Goals as goal
 
 pub returns-in-Some : goal.returns-in-Some

@@ -18,9 +18,7 @@ returns-in_default-read_count c = no_up c.find_byte.ensures.exact c.split_at.ens
 pub returns : goal.returns
 returns c =
     let back : to_z w64 (of_z w64 c.in-Some.number) ≡ c.in-Some.number = omega (arith, ints, c.in-Some.ensures.0) in
-    rw back
-    (both_read c.find_byte.ensures.exact
-    c.split_at.ensures.front c.split_at.ensures.back
-    c.behind_first.result.now c.in-Some.number c.in-Some-read_count.up
-    (some_behind c.split_at.result.1.now c.if-is_empty.ensures) c.behind_first.ensures
-    c.in-Some.ensures.0 c.in-Some.ensures.1 c.in-Some-read_count.ensures.0 c.in-Some-read_count.ensures.1)
+    rw back (both_read c.find_byte.ensures.exact c.split_at.ensures.front c.split_at.ensures.back
+    c.behind_first.result.now c.in-Some.number c.in-Some-read_count.up (some_behind c.split_at.result.1.now
+    c.if-is_empty.ensures) c.behind_first.ensures c.in-Some.ensures.0 c.in-Some.ensures.1 c.in-Some-read_count.ensures.0
+    c.in-Some-read_count.ensures.1)

@@ -12,10 +12,9 @@ returns-in_err-numbering-clause-unused c wish for = handed _ _ _ c.from_residual
     c.in_err-numbering.ensures.refused)
 
 pub returns-in-Whole-clause-checked : goal.returns-in-Whole-clause-checked
-returns-in-Whole-clause-checked c wish for =
-    checked_there (passed_none for) c.args.terms.rising (alone (lists_of c.args.cert)) c.args.cert
-    (Alone c.args.cert) refl c.requires.cert.reach refl c.in_ok-numbering.ensures.solved
-    (rw c.in-Whole.is at c.in_ok-numbering.ensures.gives)
+returns-in-Whole-clause-checked c wish for = checked_there (passed_none for) c.args.terms.rising
+    (alone (lists_of c.args.cert)) c.args.cert (Alone c.args.cert) refl c.requires.cert.reach refl
+    c.in_ok-numbering.ensures.solved (rw c.in-Whole.is at c.in_ok-numbering.ensures.gives)
 
 pub returns-in-Doubled-clause-unused : goal.returns-in-Doubled-clause-unused
 returns-in-Doubled-clause-unused c wish for = unused_last (passed_none for) c.args.cert c.in_ok-numbering.ensures.solved

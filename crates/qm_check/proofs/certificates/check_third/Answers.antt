@@ -24,9 +24,11 @@ returns-in_err-numbering-clause-unused c wish for =
     let net = higher (goal.at.returns-in_err-numbering-clause-unused c).After-with_floor-higher for in
     handed _ _ _ c.from_residual.ensures.1 (unused_by wish c.args.cut.now.layout (network c.with_floor-higher.result)
     c.args.terms.settings (raised (lists_of c.args.pair.first) (lists_of c.args.pair.third)) c.args.pair.third
-    c.in_err-numbering.field-0.0
-    (λ why none. inr (c.requires.doubling wish for, wrong_of c.args.pair.third why net none))
-    c.in_err-numbering.ensures.refused)
+    c.in_err-numbering.field-0.0 (λ why none. inr (
+      c.requires.doubling wish for,
+      wrong_of c.args.pair.third why net
+          none,
+    )) c.in_err-numbering.ensures.refused)
 
 pub returns-clause-checked : goal.returns-clause-checked
 returns-clause-checked c wish for =

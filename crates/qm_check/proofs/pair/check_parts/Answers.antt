@@ -4,15 +4,13 @@ use Rattle.qm_check.proofs.{Points.remesh_line, Tasks.few_found, pair.check_part
 use Rattle.qm_check.proofs.pair.check_parts.Goals as goal
 
 -- The line behind the old text asks for a remesh.
-asked : (c : In-Some)
-    → IsAskedAt c.args.text.now.bytes.now c.old_text-front.result.bytes.now c.args.text.now.head.line c.in_ok-old.old
-    c.in-Some.asked.settings c.in-Some.asked.auto
+asked : (c : In-Some) → IsAskedAt c.args.text.now.bytes.now c.old_text-front.result.bytes.now c.args.text.now.head.line
+    c.in_ok-old.old c.in-Some.asked.settings c.in-Some.asked.auto
 asked c = search rules
 
 pub returns-in_default-clause-refused : goal.returns-in_default-clause-refused
-returns-in_default-clause-refused c =
-    no_head c.args.text.now.bytes.now c.old_text-front.result.bytes.now c.args.text.now.head.line c.requires.last
-    c.old_text-front.ensures.lines c.in_ok-old.old c.in_ok-old.ensures.old
+returns-in_default-clause-refused c = no_head c.args.text.now.bytes.now c.old_text-front.result.bytes.now
+    c.args.text.now.head.line c.requires.last c.old_text-front.ensures.lines c.in_ok-old.old c.in_ok-old.ensures.old
     (rw c.head_line-line.ensures at c.in_default.ensures)
 
 pub ready_for-requires-clause-line : goal.ready_for-requires-clause-line

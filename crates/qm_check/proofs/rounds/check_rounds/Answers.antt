@@ -49,10 +49,9 @@ check_rises-requires-clause-long c = c.in_ok-numbering.ensures.solved.accepted.c
     ∙ (c.rounds.invariant.passed c.requires.run.wish c.requires.run.of_layout).risen.is.long
 
 pub check_rises-requires-clause-lengths : goal.check_rises-requires-clause-lengths
-check_rises-requires-clause-lengths c =
-    are_lengths c.args.cut.now.layout c.args.terms.settings (network c.rounds.net) c.in-Some.round.cert
-    c.in-Some.round.cert.x.items (c.rounds.invariant.passed c.requires.run.wish c.requires.run.of_layout).risen
-    c.in_ok-numbering.ensures.solved refl
+check_rises-requires-clause-lengths c = are_lengths c.args.cut.now.layout c.args.terms.settings (network c.rounds.net)
+    c.in-Some.round.cert c.in-Some.round.cert.x.items (c.rounds.invariant.passed c.requires.run.wish
+    c.requires.run.of_layout).risen c.in_ok-numbering.ensures.solved refl
 
 pub returns-in_err-check_rises-clause-unused : goal.returns-in_err-check_rises-clause-unused
 returns-in_err-check_rises-clause-unused c wish for =

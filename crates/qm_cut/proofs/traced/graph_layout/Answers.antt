@@ -6,9 +6,8 @@ pub returns-clause-mesh : Rattle.qm_cut.proofs.traced.graph_layout.Goals.returns
 returns-clause-mesh c =
     let faces = c.args.mesh.now in
     let marks = c.args.graph.now.covered.items in
-    IfOk-weaker c.layout.result (λ t. IsCutLayout faces marks (layout_of t))
-    (λ t. (is : IsSomeLayout (layout_of t)) × (is.faces ≡ faces))
-    (λ t laid. (
+    IfOk-weaker c.layout.result (λ t. IsCutLayout faces marks (layout_of t)) (λ t. (is : IsSomeLayout (layout_of t))
+    × (is.faces ≡ faces)) (λ t laid. (
       record {
         faces = faces;
         mesh = c.faces.ensures.mesh;

@@ -16,8 +16,7 @@ returns-then-is_empty c p q r =
     absurd (omega (arith, eqb-true (length c.split_at.result.1.now) 0 (sym c.if-is_empty.ensures), ap length behind))
 
 pub returns-in_default : goal.returns-in_default
-returns-in_default c p q r =
-    c.in_default.ensures p r.p_low r.p_high
+returns-in_default c p q r = c.in_default.ensures p r.p_low r.p_high
     (front (goal.at.returns-in_default c).After-split_at ∙ (sides c.args.word.now p q r).0)
 
 pub returns-in_default-read_count : goal.returns-in_default-read_count

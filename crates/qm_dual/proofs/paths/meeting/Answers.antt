@@ -15,8 +15,7 @@ returns-else-second-eq0-clause-least c =
     ] in
     λ k. meeting_found c.args.d.now.nest.nested c.requires.headed c.loop-first.first c.loop-first.second
     (c.loop-first.first - 1) (c.loop-first.second - 1) c.max.result c.max.ensures (omega arith) (omega arith)
-    (omega arith) (omega arith) heads k
-    ∙ sym (c.loop-first.invariant.same k)
+    (omega arith) (omega arith) heads k ∙ sym (c.loop-first.invariant.same k)
 
 pub returns-then-second-eq0-clause-least : goal.returns-then-second-eq0-clause-least
 returns-then-second-eq0-clause-least c = search (rules, meeting_none)

@@ -1,7 +1,6 @@
 use Rattle.std.proofs.Common.{rules, ◌≡◌, ℕ, Bool, List, true, cond, length, subst, sym, ap, ◌∙◌, arith}
-use Rattle.std.proofs.{lemmas.List.with_items_is, lemmas.Result.IfOk-weaker}
-use Rattle.def_cut.specs.{FullCut.is_on, Motion.is_among}
-use Rattle.feature_laws.proofs.{First.origin_of, Exists.conforms}
+use Rattle.{std.proofs.lemmas.List.with_items_is, std.proofs.lemmas.Result.IfOk-weaker, def_cut.specs.FullCut.is_on}
+use Rattle.{def_cut.specs.Motion.is_among, feature_laws.proofs.First.origin_of, feature_laws.proofs.Exists.conforms}
 use Rattle.{def_mesh.specs.Darts.darts, def_feature.specs.Marked.marked_starts, feature_laws.specs.Leads.AreLed}
 use Rattle.qm_feature.proofs.straightening.conforming.Goals as goal
 
@@ -23,14 +22,12 @@ returns c =
     let sources : c.deref-4.result.now ≡ c.mark_starts.new.begun = c.deref-4.ensures.value ∙ with_items_is
     c.in_ok-sources.sources c.mark_starts.new.begun (c.mark_starts.auto.begun ∙ c.deref_mut.ensures.len) in
     let told : (d : ℕ) → is_on c.deref-4.result.now d ≡ cond (is_among d c.deref-3.result.now) true
-    (is_on c.args.marks.now d) = λ d.
-    ap (λ (xs : List Bool). is_on xs d) sources
+    (is_on c.args.marks.now d) = λ d. ap (λ (xs : List Bool). is_on xs d) sources
     ∙ (c.mark_starts.ensures d ∙ ap (λ (xs : List Bool). cond (is_among d c.deref-3.result.now) true (is_on xs d))
     items) in
     let led : AreLed c.args.mesh.now c.deref-4.result.now c.deref-5.result.now (darts c.args.mesh.now) =
     subst (λ (xs : List Bool). AreLed c.args.mesh.now c.deref-4.result.now xs (darts c.args.mesh.now))
     (sym c.deref-5.ensures.value) c.in_ok-led.ensures in
-    IfOk-weaker c.edges.result _ _
-    (λ cut is. conforms c.args.mesh.now c.faces-known.ensures.mesh.manifold c.args.marks.now c.deref-3.result.now
-    c.deref-4.result.now c.deref-5.result.now cut.items starts told led is)
+    IfOk-weaker c.edges.result _ _ (λ cut is. conforms c.args.mesh.now c.faces-known.ensures.mesh.manifold
+    c.args.marks.now c.deref-3.result.now c.deref-4.result.now c.deref-5.result.now cut.items starts told led is)
     c.edges.ensures

@@ -20,24 +20,21 @@ mark_starts-requires c d n =
     )
 
 pub leaves_break-requires-clause-long : goal.leaves_break-requires-clause-long
-leaves_break-requires-clause-long c =
-    ap length c.requires.breaks ∙ (length-map (all_vertices c.args.mesh.now) (is_break c.args.mesh.now c.args.marks.now)
-    ∙ length-range_with_len 0 (vertex_count c.args.mesh.now))
+leaves_break-requires-clause-long c = ap length c.requires.breaks ∙ (length-map (all_vertices c.args.mesh.now)
+    (is_break c.args.mesh.now c.args.marks.now) ∙ length-range_with_len 0 (vertex_count c.args.mesh.now))
 
 pub loop-d-preserved : goal.loop-d-preserved
 loop-d-preserved c =
     let items : c.in_ok-begun.begun.items ≡ replicate (darts c.args.mesh.now) false = search rules in
     let low : c.loop-d.d < darts c.args.mesh.now = omega (arith, c.loop-d-test.true, ap length c.faces.ensures.value) in
     let t : c.starts_at.result ≡ (is_origin c.args.mesh.now c.args.marks.now c.loop-d.d && not
-    (is_on c.args.marks.now c.loop-d.d)) =
-    starts_told c.args.mesh.now c.args.starts.now c.args.marks.now c.deref_mut.result.now c.mark_starts.new.begun
-    c.args.breaks.now c.loop-d.d c.index.result.now c.leaves_break.result (is_on c.args.marks.now c.loop-d.d)
-    c.starts_at.result low
-    c.requires.starts (c.deref_mut.ensures.value ∙ items) c.mark_starts.ensures c.requires.breaks
+    (is_on c.args.marks.now c.loop-d.d)) = starts_told c.args.mesh.now c.args.starts.now c.args.marks.now
+    c.deref_mut.result.now c.mark_starts.new.begun c.args.breaks.now c.loop-d.d c.index.result.now c.leaves_break.result
+    (is_on c.args.marks.now c.loop-d.d) c.starts_at.result low c.requires.starts (c.deref_mut.ensures.value ∙ items)
+    c.mark_starts.ensures c.requires.breaks
     (c.index.ensures ∙ (ap (λ (xs : List Bool). get_or xs c.loop-d.d c.index.result.now)
     (with_items_is c.in_ok-begun.begun c.mark_starts.new.begun (c.mark_starts.auto.begun ∙ c.deref_mut.ensures.len))
-    ∙ get_or_default c.mark_starts.new.begun c.loop-d.d c.index.result.now false
-    (omega (
+    ∙ get_or_default c.mark_starts.new.begun c.loop-d.d c.index.result.now false (omega (
       arith,
       low,
       c.mark_starts.auto.begun,
@@ -45,12 +42,10 @@ loop-d-preserved c =
       length-replicate (darts c.args.mesh.now) false,
     )))) c.leaves_break.ensures refl c.starts_at.ensures in
     elim c.if-starts_at.branch [
-      | then-starts_at+in_ok-push w ↦ rw (w.found-is, w.in_ok-push.ensures.items)
-          (ap (λ xs. xs ++ c.loop-d.d ∷ []) c.loop-d.invariant
-          ∙ sym (filter_on (λ d. is_origin c.args.mesh.now c.args.marks.now d && not (is_on c.args.marks.now d))
-          c.loop-d.d (sym t ∙ w.if-starts_at.true)))
+      | then-starts_at+in_ok-push w ↦ rw (w.found-is, w.in_ok-push.ensures.items) (ap (λ xs. xs ++ c.loop-d.d ∷ [])
+          c.loop-d.invariant ∙ sym (filter_on (λ d. is_origin c.args.mesh.now c.args.marks.now d && not
+          (is_on c.args.marks.now d)) c.loop-d.d (sym t ∙ w.if-starts_at.true)))
       | else-starts_at w ↦ rw w.found-is
-          (c.loop-d.invariant
-          ∙ sym (filter_off (λ d. is_origin c.args.mesh.now c.args.marks.now d && not (is_on c.args.marks.now d))
-          c.loop-d.d (sym t ∙ w.if-starts_at.false)))
+          (c.loop-d.invariant ∙ sym (filter_off (λ d. is_origin c.args.mesh.now c.args.marks.now d && not
+          (is_on c.args.marks.now d)) c.loop-d.d (sym t ∙ w.if-starts_at.false)))
     ]

@@ -14,9 +14,8 @@ returns c =
     ∙ (λ i. second i ++ (c.as_bytes-2.ensures.value ∙ c.patches_word.ensures.word) i) in
     let third = c.in_ok-extend_from_slice-5.ensures.items ∙ ap (λ (t : Word). t ++ codes " aim ") cut in
     let aim = c.in_ok-push_aim.ensures ∙ ap (λ (t : Word). t ++ aim_text fit.aim) third in
-    let least = c.in_ok-push_least.ensures
-    ∙ ap (λ (t : Word). t ++ codes " floor " ++ floor_text fit.floor fit.auto ++ codes " weight "
-    ++ weight_text fit.weight) aim in
+    let least = c.in_ok-push_least.ensures ∙ ap (λ (t : Word). t ++ codes " floor " ++ floor_text fit.floor fit.auto ++
+    codes " weight " ++ weight_text fit.weight) aim in
     let spacing = c.in_ok-push_spacing.ensures
     ∙ ap (λ (t : Word). t ++ codes " spacing " ++ spacing_word fit.spacing) least in
     c.in_ok-push.ensures.items ∙ ap (λ (t : Word). t ++ 10 ∷ []) spacing

@@ -1,9 +1,8 @@
 use Rattle.std.proofs.Common.{◌≡◌, ℕ, ◌+◌, ◌++◌, Bool, List, length, drop, slice_index, slice_index_or, false, sym, ◌∙◌}
-use Rattle.std.proofs.Common.{ap, length-append, arith}
-use Rattle.gadget_laws.specs.Marks.{marks_by, units_marks}
 use Rattle.qm_gadget.proofs.NodeCounts.{no_unit, step_of, same_everywhere, active_at_low, raised_read}
-use Rattle.qm_gadget.proofs.Numbers.{marks_step, marks_width}
-use Rattle.{def_flow.specs.Units.active_at, qm_gadget.specs.Layout.copies_in}
+use Rattle.{std.proofs.Common.ap, std.proofs.Common.length-append, std.proofs.Common.arith}
+use Rattle.{gadget_laws.specs.Marks.marks_by, gadget_laws.specs.Marks.units_marks, qm_gadget.proofs.Numbers.marks_step}
+use Rattle.{qm_gadget.proofs.Numbers.marks_width, def_flow.specs.Units.active_at, qm_gadget.specs.Layout.copies_in}
 
 pub loop-i-preserved : Rattle.qm_gadget.proofs.marks.push_all_marks.Goals.loop-i-preserved
 loop-i-preserved c =

@@ -7,7 +7,6 @@ invariant_of-stated-clause-each c =
     let downs : length c.deref.result.now ≡ length boxes.net.whole.now.arcs.items =
     ap length (c.deref.ensures.value ∙ c.in_ok-downs.ensures) ∙ (length-map boxes.caps.now (λ k. k - 2)
     ∙ boxes.ready.boxes.caps_count) in
-    ap length (c.deref-2.ensures.value ∙ c.in_ok-units.ensures)
-    ∙ (states_long (network boxes.net.whole.now) boxes.step boxes.net.whole.now.arcs.items boxes.lows.now boxes.caps.now
-    c.deref.result.now boxes.ready.boxes.lows_count boxes.ready.boxes.caps_count downs
-    ∙ sym (ap length (c.deref-3.ensures.value ∙ c.in_ok-ons.ensures)))
+    ap length (c.deref-2.ensures.value ∙ c.in_ok-units.ensures) ∙ (states_long (network boxes.net.whole.now) boxes.step
+    boxes.net.whole.now.arcs.items boxes.lows.now boxes.caps.now c.deref.result.now boxes.ready.boxes.lows_count
+    boxes.ready.boxes.caps_count downs ∙ sym (ap length (c.deref-3.ensures.value ∙ c.in_ok-ons.ensures)))

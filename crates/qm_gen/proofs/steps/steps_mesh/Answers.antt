@@ -8,14 +8,13 @@ soup_of-requires-clause-known c = are_known c.args.n c.requires.few c.in_ok-poin
     c.in_ok-cells.cells.items c.in_ok-points.ensures c.in_ok-cells.ensures
 
 pub overflow_cast-len : goal.overflow_cast-len
-overflow_cast-len c =
-    omega (
-      arith,
-      c.len.ensures,
-      c.pos.inside.pos.ok.0,
-      few_used c.args.n c.requires.few _ c.in_ok-points.points.items c.in_ok-cells.cells.items c.in_ok-points.ensures
-          (c.pos.view_is ∙ c.in_ok-pos.ensures),
-    )
+overflow_cast-len c = omega (
+  arith,
+  c.len.ensures,
+  c.pos.inside.pos.ok.0,
+  few_used c.args.n c.requires.few _ c.in_ok-points.points.items c.in_ok-cells.cells.items c.in_ok-points.ensures
+      (c.pos.view_is ∙ c.in_ok-pos.ensures),
+)
 
 pub invariant_of-result : goal.invariant_of-result
 invariant_of-result c =

@@ -19,10 +19,9 @@ loop-f-preserved c =
           let list = ap (map rectangle) w.in_ok-push.ensures.items
           ∙ map-append rectangle c.loop-f.found.items (w.in_ok-patch.patch ∷ []) in
           rw (w.seen-is, w.found-is, list) (found_more c.is_full.ensures (rectangle w.in_ok-patch.patch) low
-          (c.requires.heads c.loop-f.f low) w.in_ok-patch.ensures.grown w.in_ok-patch.ensures.cells _
-          c.loop-f.invariant w.if-not-seen-f.true w.mark.auto.seen
-          (λ g l. w.mark.ensures g l ∙ ap (λ (xs : List ℕ). (get_or c.loop-f.seen g false || lies_in xs g))
-          w.deref.ensures.value))
+          (c.requires.heads c.loop-f.f low) w.in_ok-patch.ensures.grown w.in_ok-patch.ensures.cells _ c.loop-f.invariant
+          w.if-not-seen-f.true w.mark.auto.seen (λ g l. w.mark.ensures g l
+          ∙ ap (λ (xs : List ℕ). (get_or c.loop-f.seen g false || lies_in xs g)) w.deref.ensures.value))
       | else-not-seen-f w ↦ rw (w.seen-is, w.found-is) (found_skip c.is_full.ensures c.loop-f.invariant
           w.if-not-seen-f.false)
     ]

@@ -23,7 +23,6 @@ returns c =
     let e = c.deref.ensures.value ∙ c.in_ok-patch.ensures.cells in
     record {
       more = heads_more c.is_full.ensures (c.is_corner.ensures.0 c.if-not-is_corner.false) c.in_ok-patch.ensures.grown _
-          c.requires.so_far (c.if-heads-d.false ∙ c.darts.ensures) c.set_heads.auto.heads
-          (λ f l. c.set_heads.ensures f l
-          ∙ ap (λ (xs : List ℕ). cond (lies_in xs f) c.args.d (get_or c.args.heads.now f 0)) e);
+          c.requires.so_far (c.if-heads-d.false ∙ c.darts.ensures) c.set_heads.auto.heads (λ f l. c.set_heads.ensures f
+          l ∙ ap (λ (xs : List ℕ). cond (lies_in xs f) c.args.d (get_or c.args.heads.now f 0)) e);
     }

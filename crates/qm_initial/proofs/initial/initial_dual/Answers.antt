@@ -1,6 +1,5 @@
 use Rattle.std.proofs.Common.{◌≡◌, ◌∙◌, ◌++◌, ◌+◌, ◌*◌, ◌≤◌, ap, ℤ, pos, List, drop, get_or, length, take, unsigned_abs}
-use Rattle.std.proofs.Common.{subst, sym, arith}
-use Rattle.std.proofs.{lemmas.Int.ints, Math.Seq.take-append_seam}
+use Rattle.std.proofs.{Common.subst, Common.sym, Common.arith, lemmas.Int.ints, Math.Seq.take-append_seam}
 use Rattle.qm_initial.specs.declared.initial.TheConstants.{MAX_WISH}
 
 pub returns-clause-small : Rattle.qm_initial.proofs.initial.initial_dual.Goals.returns-clause-small

@@ -27,9 +27,8 @@ returns-in_err-put_patch-clause-part g c =
     let shares = c.args.new.now.shares in
     let x = lengths_in c.args.new.now.lengths in
     let all = many g (goal.at.returns-in_err-put_patch-clause-part g c).After-len-patch-end in
-    of_error c.from_residual.result
-    (rw (← all_lines t shares x) (stops_at_number g.T.Output.takes g.T.Output.stops laws.stops_later laws.stops_before
-    (patch_lines t shares x) (λ p. p) (length t.patches) c.loop-patch.patch _ _ _
+    of_error c.from_residual.result (rw (← all_lines t shares x) (stops_at_number g.T.Output.takes g.T.Output.stops
+    laws.stops_later laws.stops_before (patch_lines t shares x) (λ p. p) (length t.patches) c.loop-patch.patch _ _ _
     (omega (arith, c.loop-patch-test.true, all)) c.loop-patch.invariant c.in_err-put_patch.ensures.part))
 
 pub loop-patch-preserved : goal.loop-patch-preserved

@@ -37,10 +37,9 @@ returns-in_err-put_cell-clause-part g c =
     let t = c.args.new.now.layout in
     let x = lengths_in c.args.new.now.lengths in
     let low = rw (c.rim-rim.ensures.wide, c.rim-rim.ensures.high) at c.loop-k-test.true in
-    of_error c.from_residual.result
-    (stops_at_number g.T.Output.takes g.T.Output.stops laws.stops_later laws.stops_before cell_line
-    (home_in t c.args.new.now.shares x c.args.patch)
-    (wide (gluing_of t) x c.args.patch * high (gluing_of t) x c.args.patch) c.loop-k.k _ _ _ low c.loop-k.invariant
+    of_error c.from_residual.result (stops_at_number g.T.Output.takes g.T.Output.stops laws.stops_later
+    laws.stops_before cell_line (home_in t c.args.new.now.shares x c.args.patch) (wide (gluing_of t) x c.args.patch
+    * high (gluing_of t) x c.args.patch) c.loop-k.k _ _ _ low c.loop-k.invariant
     (rw (here g (goal.at.returns-in_err-put_cell-clause-part g c).After-home) at c.in_err-put_cell.ensures.part))
 
 pub loop-k-preserved : goal.loop-k-preserved

@@ -1,7 +1,6 @@
-use Rattle.std.proofs.lemmas.Result.{on_err_weaker, on_ok_weaker}
-use Rattle.def_map.specs.MapText.{map_head, vertex_lines}
-use Rattle.def_remesh.specs.{NewPoints.lengths_in, CutSoups.Regrid}
-use Rattle.def_written.specs.{NewFaces.face_count, Numbers.vertices}
+use Rattle.{std.proofs.lemmas.Result.on_err_weaker, std.proofs.lemmas.Result.on_ok_weaker}
+use Rattle.{def_map.specs.MapText.map_head, def_map.specs.MapText.vertex_lines, def_remesh.specs.NewPoints.lengths_in}
+use Rattle.{def_remesh.specs.CutSoups.Regrid, def_written.specs.NewFaces.face_count, def_written.specs.Numbers.vertices}
 use Rattle.{def_io.specs.Bytes.Bytes, def_layout.specs.Layouts.gluing_of, qm_output.proofs.Prefixes.of_error}
 use Rattle.qm_map.proofs.map.put_map.Goals as goal
 

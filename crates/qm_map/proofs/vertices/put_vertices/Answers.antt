@@ -11,10 +11,9 @@ pub put_spot-requires : goal.put_spot-requires
 put_spot-requires g c = rw c.cut.ensures c.spot_near-spot.ensures.spot
 
 -- The line is that of the vertex.
-line : (g : _) (c : After-cut g)
-    → spot_line c.cut.result.now.soup.faces c.cut.result.now.soup.names c.spot_near-spot.result
-    ≡ spot_line c.args.new.now.soup.faces c.args.new.now.soup.names (spot_at c.args.new.now.layout
-    c.args.new.now.shares (lengths_in c.args.new.now.lengths) c.loop-v.v)
+line : (g : _) (c : After-cut g) → spot_line c.cut.result.now.soup.faces c.cut.result.now.soup.names
+    c.spot_near-spot.result ≡ spot_line c.args.new.now.soup.faces c.args.new.now.soup.names
+    (spot_at c.args.new.now.layout c.args.new.now.shares (lengths_in c.args.new.now.lengths) c.loop-v.v)
 line g c k = spot_line (c.cut.ensures k).soup.faces (c.cut.ensures k).soup.names (c.spot_near-spot.ensures.value k)
 
 pub returns-in_err-put_spot-clause-part : goal.returns-in_err-put_spot-clause-part
@@ -22,12 +21,11 @@ returns-in_err-put_spot-clause-part g c =
     let laws = g.met.T.Output in
     let new = c.args.new.now in
     let x = lengths_in new.lengths in
-    of_error c.from_residual.result
-    (stops_at_number g.T.Output.takes g.T.Output.stops laws.stops_later laws.stops_before
-    (spot_line new.soup.faces new.soup.names) (spot_at new.layout new.shares x)
+    of_error c.from_residual.result (stops_at_number g.T.Output.takes g.T.Output.stops laws.stops_later
+    laws.stops_before (spot_line new.soup.faces new.soup.names) (spot_at new.layout new.shares x)
     (vertices (gluing_of new.layout) x) c.loop-v.v _ _ _ (omega (arith, c.loop-v-test.true, c.vertices-v-end.ensures))
-    c.loop-v.invariant
-    (rw (line g (goal.at.returns-in_err-put_spot-clause-part g c).After-cut) at c.in_err-put_spot.ensures.part))
+    c.loop-v.invariant (rw (line g (goal.at.returns-in_err-put_spot-clause-part g c).After-cut)
+    at c.in_err-put_spot.ensures.part))
 
 pub loop-v-preserved : goal.loop-v-preserved
 loop-v-preserved g c =

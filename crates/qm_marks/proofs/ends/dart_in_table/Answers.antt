@@ -11,16 +11,13 @@ pub returns-then-keys-place-clause-some : goal.returns-then-keys-place-clause-so
 returns-then-keys-place-clause-some c =
     let sizes = small (goal.at.returns-then-keys-place-clause-some c).After-place_of-place in
     in_table c.args.mesh.now FEW c.args.keys.now c.requires.ends sizes.0 sizes.1 c.args.u c.args.v c.ranges.v.fits
-    c.place_of-place.result
-    c.if-place-keys.true (c.if-keys-place.true ∙ ap (λ x. x / 2 ^ 32) c.key_for-key.ensures)
+    c.place_of-place.result c.if-place-keys.true (c.if-keys-place.true ∙ ap (λ x. x / 2 ^ 32) c.key_for-key.ensures)
 
 pub returns-else-place-keys-clause-none : goal.returns-else-place-keys-clause-none
 returns-else-place-keys-clause-none c none =
     let sizes = small (goal.at.returns-else-place-keys-clause-none c).After-place_of-place in
     not_in_table c.args.mesh.now FEW c.args.keys.now c.requires.ends sizes.0 sizes.1 c.args.u c.args.v c.ranges.v.fits
-    c.place_of-place.result
-    (rw (← c.key_for-key.ensures)
-    c.place_of-place.ensures) other
+    c.place_of-place.result (rw (← c.key_for-key.ensures) c.place_of-place.ensures) other
     (λ d l from. ap (λ v. ltb FEW (faces_at c.args.mesh.now v)) from ∙ c.requires.busy)
   where
     other : (c.place_of-place.result < length c.args.keys.now)

@@ -17,8 +17,7 @@ loop-i-preserved-then-may_go_on c =
     let text : c.deref.result.now ≡ text_ahead (slice_range (lines_of c.args.lines.now) c.loop-i.i c.args.after) =
     c.deref.ensures.value ∙ (c.in_ok-joined.ensures.bytes
     ∙ group_text (slice_range (lines_of c.args.lines.now) c.loop-i.i c.args.after)) in
-    counted_next c.loop-i-test.true c.requires.within c.loop-i.invariant
-    (next c)
+    counted_next c.loop-i-test.true c.requires.within c.loop-i.invariant (next c)
     (c.vertices_of-count.ensures ∙ ap (λ xs. cond (begins_with 118 (words xs)) 1 0) text)
 
 pub loop-i-preserved : goal.loop-i-preserved

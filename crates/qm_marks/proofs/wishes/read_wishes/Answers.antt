@@ -16,9 +16,8 @@ loop-i-preserved c =
           let taken = w.take_wish.ensures in
           let many : length new ≡ c.loop-i.wishes.len = omega (arith, ap darts c.requires.mesh) in
           rw (w.wishes-is, take_at new (drop (length new) c.loop-i.wishes.items) c.loop-i.wishes.len many)
-          (at_wish known low (rw (← line) w.in-Some.ensures.cases.0)
-          (w.in-Some.ensures.cases.1 ∙ ap (drop 3) line) new (taken.long ∙ ap darts c.requires.mesh)
-          (rw w.deref_mut.ensures.value at w.in_ok-take_wish.ensures.took))
+          (at_wish known low (rw (← line) w.in-Some.ensures.cases.0) (w.in-Some.ensures.cases.1 ∙ ap (drop 3) line) new
+          (taken.long ∙ ap darts c.requires.mesh) (rw w.deref_mut.ensures.value at w.in_ok-take_wish.ensures.took))
       | in_default w ↦ rw w.wishes-is (at_other known low (rw (← line) w.in_default.ensures.cases))
     ]
 

@@ -22,11 +22,10 @@ returns-then-put_wish-clause-took c =
     let at = (goal.at.returns-then-put_wish-clause-took c).After-put_wish in
     let same = c.requires.keyed.same in
     takes_wish c.args.places.now.soup.now c.args.places.now.all c.args.number (pieces_of c.args.text.now)
-    c.is_far.ensures.few c.in-Some.said
-    c.in-Some.ensures (sym c.is_far.ensures.far ∙ c.if-is_far.false) c.args.wishes.now c.put_wish.new.wishes
-    (sym (edge_is at) ∙ c.if-put_wish.true)
-    (λ d low. c.put_wish.ensures.wishes c.if-put_wish.true d (rw same low)
-    ∙ (λ i. cond (runs_between (same i) (u_is at i) (v_is at i) d) c.in-Some.said.wish (get_or c.args.wishes.now d 0)))
+    c.is_far.ensures.few c.in-Some.said c.in-Some.ensures (sym c.is_far.ensures.far ∙ c.if-is_far.false)
+    c.args.wishes.now c.put_wish.new.wishes (sym (edge_is at) ∙ c.if-put_wish.true) (λ d low. c.put_wish.ensures.wishes
+    c.if-put_wish.true d (rw same low) ∙ (λ i. cond (runs_between (same i) (u_is at i) (v_is at i) d)
+    c.in-Some.said.wish (get_or c.args.wishes.now d 0)))
 
 pub returns-else-put_wish-clause-refused : goal.returns-else-put_wish-clause-refused
 returns-else-put_wish-clause-refused c = takes_no_edge c.args.places.now.soup.now c.args.places.now.all c.args.number

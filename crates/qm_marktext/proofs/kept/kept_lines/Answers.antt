@@ -19,24 +19,15 @@ marked_lines-requires-clause-long c = ap length (numbered c) ∙ c.requires.1.nu
 
 pub marked_lines-requires-clause-some : goal.marked_lines-requires-clause-some
 marked_lines-requires-clause-some c a low = subst (λ (xs : List ℕ). 0 < lengths_in xs a) (sym (numbered c))
-    (c.requires.1.numbering.lengths.some a (omega (
-      arith,
-      low,
-      ap length (numbered c),
-      c.requires.1.numbering.long,
-    )))
+    (c.requires.1.numbering.lengths.some a (omega (arith, low, ap length (numbered c), c.requires.1.numbering.long)))
 
 pub marked_lines-requires-clause-few : goal.marked_lines-requires-clause-few
-marked_lines-requires-clause-few c =
-    subst (λ (n : ℕ). n < 2 ^ 32) (λ i. vertices (gluing_of (sym c.layout.ensures.layout i))
-    (lengths_in (sym (numbered c) i)))
+marked_lines-requires-clause-few c = subst (λ (n : ℕ). n < 2 ^ 32)
+    (λ i. vertices (gluing_of (sym c.layout.ensures.layout i)) (lengths_in (sym (numbered c) i)))
     (omega (arith, c.vertices-count.ensures c.args.cut.now.layout c.requires.1.numbering, c.vertices-count.type_inv))
 
 pub returns : goal.returns
-returns c =
-    subst (λ (p : Layout). IfOk c.marked_lines.result (λ text. text.items
-    ≡ marked_text c.args.marks.now p (lengths_in (used (certificates_of c.args.remesh.now.certs)).x)))
-    c.layout.ensures.layout
-    (subst (λ (xs : List ℕ). IfOk c.marked_lines.result (λ text. text.items
-    ≡ marked_text c.args.marks.now (layout_of c.layout.result.now) (lengths_in xs)))
-    (used_are (goal.at.returns c).After-deref) c.marked_lines.ensures)
+returns c = subst (λ (p : Layout). IfOk c.marked_lines.result (λ text. text.items ≡ marked_text c.args.marks.now p
+    (lengths_in (used (certificates_of c.args.remesh.now.certs)).x))) c.layout.ensures.layout
+    (subst (λ (xs : List ℕ). IfOk c.marked_lines.result (λ text. text.items ≡ marked_text c.args.marks.now
+    (layout_of c.layout.result.now) (lengths_in xs))) (used_are (goal.at.returns c).After-deref) c.marked_lines.ensures)

@@ -38,15 +38,13 @@ pub returns-clause-waiting : goal.returns-clause-waiting
 returns-clause-waiting c =
     let one = rw c.new-after.ensures at c.in_ok-note_from.ensures.noted in
     let still = rw c.new-after.ensures at c.in_ok-note_from.ensures.kept in
-    both_ok c.note_from-2.result (λ noted kept.
-    wait_still c.drop_seam.new.cut c.requires.cutting c.args.place c.requires.seam
-    c.drop_seam.ensures.long c.drop_seam.ensures.without
+    both_ok c.note_from-2.result (λ noted kept. wait_still c.drop_seam.new.cut c.requires.cutting c.args.place
+    c.requires.seam c.drop_seam.ensures.long c.drop_seam.ensures.without
     (rw c.new-before.ensures at c.round_from-near.ensures) (rw c.new-before.ensures at c.round_from-far.ensures)
-    c.args.names.now c.note_from.new.names
-    c.note_from-2.new.names c.args.links.now.starts.items c.note_from.new.links.starts.items
-    c.note_from-2.new.links.starts.items one (λ r u m name arc named old. still r u m name arc named
-    (rw c.join_rounds.ensures.starts old)) noted kept) (rw c.new-after.ensures at c.note_from-2.ensures.noted)
-    (rw c.new-after.ensures at c.note_from-2.ensures.kept)
+    c.args.names.now c.note_from.new.names c.note_from-2.new.names c.args.links.now.starts.items
+    c.note_from.new.links.starts.items c.note_from-2.new.links.starts.items one (λ r u m name arc named old. still r u m
+    name arc named (rw c.join_rounds.ensures.starts old)) noted kept)
+    (rw c.new-after.ensures at c.note_from-2.ensures.noted) (rw c.new-after.ensures at c.note_from-2.ensures.kept)
 
 pub returns-clause-below : goal.returns-clause-below
 returns-clause-below c = let one = rw c.new-after.ensures at c.in_ok-note_from.ensures.below in
@@ -57,8 +55,7 @@ pub returns-clause-fewer : goal.returns-clause-fewer
 returns-clause-fewer c =
     let one : btree_set_len c.note_from.new.names ≤ btree_set_len c.args.names.now + 1 =
     c.in_ok-note_from.ensures.few in
-    on_ok_weaker c.note_from-2.result
-    (λ few. omega (
+    on_ok_weaker c.note_from-2.result (λ few. omega (
       arith,
       few,
       one,

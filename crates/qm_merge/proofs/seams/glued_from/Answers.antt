@@ -1,10 +1,8 @@
 use Rattle.std.proofs.Common.{◌≡◌, min, false, Some, sym, ◌∙◌, arith, true, true≢false}
-use Rattle.std.proofs.lemmas.Bool.{false≢true}
-use Rattle.def_mesh.specs.{Darts.next_of, Darts.twin_of, HalfEdges.half_edges}
-use Rattle.def_cut.specs.FullCut.{is_on}
 use Rattle.qm_grid.proofs.Found.{row_at, row_inside, row_never}
 use Rattle.qm_merge.proofs.Rounds.{least_of_three, glued_more, name_more, glued_done, name_done, no_twin, leads_there}
-use Rattle.qm_merge.proofs.Rounds.{far_corner}
+use Rattle.{std.proofs.lemmas.Bool.false≢true, def_mesh.specs.Darts.next_of, def_mesh.specs.Darts.twin_of}
+use Rattle.{def_mesh.specs.HalfEdges.half_edges, def_cut.specs.FullCut.is_on, qm_merge.proofs.Rounds.far_corner}
 use Rattle.qm_merge.proofs.seams.glued_from.Goals as goal
 
 pub returns-in_default-clause-none : goal.returns-in_default-clause-none

@@ -26,8 +26,6 @@ returns c marks full laid =
     let put = c.put_arcs.ensures.value ∙ (λ i. with_arcs soup.faces soup.pos (begun i) (c.deref.ensures.value i)) in
     let mesh = c.layout-layout.ensures.laid in
     with_items_is c.in_ok-lengths.lengths c.put_arcs.new.lengths (c.put_arcs.auto.lengths ∙ c.deref_mut.ensures.len)
-    ∙ put
-    ∙ filled_is soup.faces soup.pos (manifold_law soup.faces (subst IsManifold mesh.1 mesh.0.mesh.manifold)) marks full
-    (is_node soup.faces marks) arcs
-    (subst (λ (p : Layout). AreArcs (half_edges soup.faces) (is_on marks) (is_node soup.faces marks) p.arcs)
-    (sym c.layout-layout.ensures.layout) laid.arcs) (inside at)
+    ∙ put ∙ filled_is soup.faces soup.pos (manifold_law soup.faces (subst IsManifold mesh.1 mesh.0.mesh.manifold)) marks
+    full (is_node soup.faces marks) arcs (subst (λ (p : Layout). AreArcs (half_edges soup.faces) (is_on marks)
+    (is_node soup.faces marks) p.arcs) (sym c.layout-layout.ensures.layout) laid.arcs) (inside at)

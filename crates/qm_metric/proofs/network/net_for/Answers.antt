@@ -60,9 +60,8 @@ found c =
     (rw c.deref.ensures.value at sums.ensures.wishes))
 
 pub returns-then-sums-from-clause-refused : goal.returns-then-sums-from-clause-refused
-returns-then-sums-from-clause-refused c =
-    (found (goal.at.returns-then-sums-from-clause-refused c).In_ok-sums).far (rounds_if c.args.fit.now.auto)
-    (omega (arith, c.if-sums-from.true, c.from.ensures))
+returns-then-sums-from-clause-refused c = (found (goal.at.returns-then-sums-from-clause-refused c).In_ok-sums).far
+    (rounds_if c.args.fit.now.auto) (omega (arith, c.if-sums-from.true, c.from.ensures))
 
 pub returns-clause-near : goal.returns-clause-near
 returns-clause-near c = (found (goal.at.returns-clause-near c).In_ok-sums).near

@@ -6,8 +6,7 @@ pub returns-in-Some-clause-value : goal.returns-in-Some-clause-value
 returns-in-Some-clause-value c = (root_law c.args.n c.ranges.n.fits).1 _ c.in-Some.ensures
 
 pub returns-in-None-clause-value : goal.returns-in-None-clause-value
-returns-in-None-clause-value c =
-    (root_law c.args.n c.ranges.n.fits).1 _ (record {
-      low = c.isqrt.ensures.square_le;
-      high = c.isqrt.ensures.next_square_gt;
-    })
+returns-in-None-clause-value c = (root_law c.args.n c.ranges.n.fits).1 _ (record {
+  low = c.isqrt.ensures.square_le;
+  high = c.isqrt.ensures.next_square_gt;
+})

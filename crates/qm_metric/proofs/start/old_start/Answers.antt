@@ -7,7 +7,6 @@ pub times_long-requires : goal.times_long-requires
 times_long-requires c = search (rules, runs_short)
 
 pub returns : goal.returns
-returns c =
-    IfOk-weaker c.times_long.result _ _
+returns c = IfOk-weaker c.times_long.result _ _
     (λ start is. is ∙ ap (map (λ (run : TArc). c.args.floor * length run.darts.items)) c.deref.ensures.value
     ∙ times_same c.args.floor c.args.t.now.arcs.items) c.times_long.ensures

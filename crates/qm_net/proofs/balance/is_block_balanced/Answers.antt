@@ -4,8 +4,7 @@ use Rattle.qm_net.proofs.Balances.{balanced_by_zeros, balances_none, zeros_by_ba
 use Rattle.qm_net.proofs.balance.is_block_balanced.Goals as goal
 
 pub loop-k-init : goal.loop-k-init
-loop-k-init c =
-    balances_none c.args.lengths.now.net.whole.now.arcs.items c.args.lengths.now.x.now c.args.first _ refl
+loop-k-init c = balances_none c.args.lengths.now.net.whole.now.arcs.items c.args.lengths.now.x.now c.args.first _ refl
 
 pub returns : goal.returns
 returns c =

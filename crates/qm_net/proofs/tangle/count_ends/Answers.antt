@@ -15,7 +15,6 @@ count_arc-requires-clause-small c =
     )
 
 pub loop-arc-preserved : goal.loop-arc-preserved
-loop-arc-preserved c = rw (← c.deref-arc-items.ensures.value)
-    (degrees_more c.deref-arc-items.result.now no_arc c.loop-arc.arc-index c.args.net.now.whole.now.nodes
-    c.loop-arc.degrees c.count_arc.new.degrees c.loop-arc-test.true
+loop-arc-preserved c = rw (← c.deref-arc-items.ensures.value) (degrees_more c.deref-arc-items.result.now no_arc
+    c.loop-arc.arc-index c.args.net.now.whole.now.nodes c.loop-arc.degrees c.count_arc.new.degrees c.loop-arc-test.true
     (rw c.deref-arc-items.ensures.value c.loop-arc.invariant) c.count_arc.ensures)

@@ -18,6 +18,5 @@ returns c =
     let net : Network = network c.args.degrees.now.net.whole.now in
     let table : List ℕ = c.args.degrees.now.at.items in
     let end : c.loop-degree.degree-index ≡ length table = omega (arith, ap length c.deref-degree-items.ensures.value) in
-    c.loop-degree.invariant.value
-    ∙ (ap (count_below (λ v. 16 * (slice_index table v * slice_index table v))) end
+    c.loop-degree.invariant.value ∙ (ap (count_below (λ v. 16 * (slice_index table v * slice_index table v))) end
     ∙ squares net.nodes net.arcs table c.args.degrees.now.tally)

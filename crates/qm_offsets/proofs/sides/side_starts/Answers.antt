@@ -13,10 +13,9 @@ size_is side lengths k low = ap (λ (used : SideArc). get_or lengths used.arc 0)
 
 -- There is room for it.
 room : (side : List SideArc) (lengths starts : List ℕ) (k : ℕ) → k < length side
-    → AreRunStarts (sizes_on side (lengths_in lengths)) k starts
-    → count_below (sizes_on side (lengths_in lengths)) (length side) < 2 ^ 32
-    → slice_index starts (length starts - 1) + get_or lengths (get_or side k (record { arc = 0; forward = false })).arc
-    0 < 2 ^ 32
+    → AreRunStarts (sizes_on side (lengths_in lengths)) k starts → count_below (sizes_on side (lengths_in lengths))
+    (length side) < 2 ^ 32 → slice_index starts (length starts - 1) + get_or lengths
+    (get_or side k (record { arc = 0; forward = false })).arc 0 < 2 ^ 32
 room side lengths starts k low are small =
     let upto : count_below (sizes_on side (lengths_in lengths)) (suc k)
     ≤ count_below (sizes_on side (lengths_in lengths)) (length side) =
@@ -30,7 +29,6 @@ pub push_start-requires-clause-small : goal.push_start-requires-clause-small
 push_start-requires-clause-small c = search (rules, room)
 
 pub loop-used-preserved : goal.loop-used-preserved
-loop-used-preserved c =
-    c.in_ok-push_start.ensures (sizes_on c.args.side.now (lengths_in c.args.lengths.now)) c.loop-used.used-index
-    c.loop-used.invariant
-    (size_is c.args.side.now c.args.lengths.now c.loop-used.used-index c.loop-used-test.true)
+loop-used-preserved c = c.in_ok-push_start.ensures (sizes_on c.args.side.now (lengths_in c.args.lengths.now))
+    c.loop-used.used-index c.loop-used.invariant (size_is c.args.side.now c.args.lengths.now c.loop-used.used-index
+    c.loop-used-test.true)

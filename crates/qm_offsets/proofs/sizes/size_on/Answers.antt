@@ -9,15 +9,13 @@ use Rattle.qm_offsets.proofs.sizes.size_on.Goals as goal
 
 -- Sides are short enough for 64 bits.
 short : (t : TMesh) (x : ℕ → ℕ) (is : IsSomeLayout (layout_of t)) → ((a : ℕ) → x a ≤ 10 ^ 12) → (p : ℕ) (s : Way)
-    → p < length t.patches.items
-    → size (gluing_of (layout_of t)) x p s < 2 ^ 64
+    → p < length t.patches.items → size (gluing_of (layout_of t)) x p s < 2 ^ 64
 short t x is most p s low =
     let l_low : p < length (layout_of t).patches = omega (arith, low, length-map t.patches.items rectangle) in
     omega (
       arith,
       side_most (gluing_of (layout_of t)) (long_at (layout_of t).arcs) x (10 ^ 12) (laid_of (layout_of t) is)
-          (lengths_of (layout_of t) is)
-          most p s l_low,
+          (lengths_of (layout_of t) is) most p s l_low,
       side_few (gluing_of (layout_of t)) (long_at (layout_of t).arcs) (laid_of (layout_of t) is)
           (lengths_of (layout_of t) is) p s l_low,
       old_faces (layout_of t) is,
@@ -34,8 +32,7 @@ pub size_of-requires-clause-low : goal.size_of-requires-clause-low
 size_of-requires-clause-low c =
     let way : (way : Way) × (way_number way ≡ c.args.side) = way_for c.args.side c.requires.side in
     uses_low (layout_of c.args.t.now) c.requires.layout c.args.patch way.0 (length c.args.lengths.now)
-    c.side_of.result.now
-    (omega (arith, c.requires.patch, length-map c.args.t.now.patches.items rectangle))
+    c.side_of.result.now (omega (arith, c.requires.patch, length-map c.args.t.now.patches.items rectangle))
     (omega (arith, c.requires.long, length-map c.args.t.now.arcs.items path)) (read c way.0 way.1)
 
 pub size_of-requires-clause-small : goal.size_of-requires-clause-small

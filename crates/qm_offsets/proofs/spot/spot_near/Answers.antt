@@ -7,8 +7,7 @@ use Rattle.qm_offsets.proofs.spot.spot_near.Goals as goal
 held : (starts : List ℕ) (run place : ℕ) → (run + 1 < length starts) × (slice_index starts run ≤ place)
     × (place < slice_index starts (run + 1))
     → (sizes : ℕ → ℕ) (runs : ℕ) → AreRunStarts sizes runs starts → run ≡ run_at (count_below sizes) runs place
-held starts run place holds sizes runs are =
-    sym (spot_between sizes runs place run (omega (arith, holds.0, are.count))
+held starts run place holds sizes runs are = sym (spot_between sizes runs place run (omega (arith, holds.0, are.count))
     (inr (omega (arith, holds.1, are.each run (omega (arith, holds.0, are.count)))))
     (inr (omega (arith, holds.2, are.each (run + 1) (omega (arith, holds.0, are.count))))))
 

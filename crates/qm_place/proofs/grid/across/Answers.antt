@@ -11,10 +11,9 @@ returns c layout new spacing p low len is ends columns =
     place_read _ _ (parameter (gluing_of layout) (long_at layout.arcs) new spacing p south)
     c.at_place-south.ensures.before c.at_place-south.ensures.end (is.sides south).each is.wide (omega arith)
     ((λ k. ONE * (c.from-end.ensures ∙ columns) k) ∙ sym ends.south) in
-    let far : c.at_place-north.result
-    ≡ parameter_back (gluing_of layout) (long_at layout.arcs) new spacing p north (c.args.at.now.rim.wide - i) =
-    place_read _ _ (parameter_back (gluing_of layout) (long_at layout.arcs) new spacing p north)
-    c.at_place-north.ensures.before c.at_place-north.ensures.end
-    (λ k less. (is.sides north).each k (omega (arith, less))) is.wide (omega arith) (sym ends.north) in
+    let far : c.at_place-north.result ≡ parameter_back (gluing_of layout) (long_at layout.arcs) new spacing p north
+    (c.args.at.now.rim.wide - i) = place_read _ _ (parameter_back (gluing_of layout) (long_at layout.arcs) new spacing p
+    north) c.at_place-north.ensures.before c.at_place-north.ensures.end (λ k less. (is.sides north).each k
+    (omega (arith, less))) is.wide (omega arith) (sym ends.north) in
     c.mean.ensures ∙ (λ k. (near k * (is.high k - j) + (far ∙ (λ m. parameter_back (gluing_of layout)
     (long_at layout.arcs) new spacing p north (is.wide m - i))) k * j) / is.high k)

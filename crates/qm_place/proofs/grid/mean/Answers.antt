@@ -9,6 +9,5 @@ pub returns-then-near-far : Rattle.qm_place.proofs.grid.mean.Goals.returns-then-
 returns-then-near-far c =
     let parts : (c.args.parts - c.args.some) + c.args.some ≡ c.args.parts = omega arith in
     sym (ap (λ far. (c.args.near * (c.args.parts - c.args.some) + far * c.args.some) / c.args.parts)
-    (sym c.if-near-far.true)
-    ∙ (ap (λ sum. sum / c.args.parts) (whole _ _ _
-    ∙ ap (λ n. c.args.near * n) parts) ∙ mul-div_cancel _ c.requires.1))
+    (sym c.if-near-far.true) ∙ (ap (λ sum. sum / c.args.parts) (whole _ _ _ ∙ ap (λ n. c.args.near * n) parts)
+    ∙ mul-div_cancel _ c.requires.1))

@@ -1,11 +1,10 @@
 use Rattle.std.proofs.Common.{rules, ◌≡◌, ◌≤◌, ℕ, List, length, refl, sym, ◌∙◌, arith}
-use Rattle.{std.proofs.lemmas.List.length-map, def_layoutnet.specs.MeshLayouts.IsSomeLayout}
-use Rattle.{def_cut.specs.Grids.rectangle, def_written.specs.NewFaces.face_count, qm_place.specs.ArcTables.AreFine}
 use Rattle.def_layout.specs.{Arcs.path, Lengths.AreLengths, Layouts.gluing_of, Layouts.layout_of}
-use Rattle.def_layout.specs.{declared.tmesh.TMesh.TMesh}
 use Rattle.def_remesh.specs.{NewPoints.lengths_in, declared.limits.TheConstants.MAX_NEW_FACES}
 use Rattle.qm_place.proofs.Pushes.{inner_short, inner_starts, lengths_short, rims_some}
-use Rattle.qm_place.proofs.Rims.{fine_of}
+use Rattle.{std.proofs.lemmas.List.length-map, def_layoutnet.specs.MeshLayouts.IsSomeLayout}
+use Rattle.{def_cut.specs.Grids.rectangle, def_written.specs.NewFaces.face_count, qm_place.specs.ArcTables.AreFine}
+use Rattle.{def_layout.specs.declared.tmesh.TMesh.TMesh, qm_place.proofs.Rims.fine_of}
 use Rattle.qm_place.proofs.places.placer.Goals as goal
 
 -- What is known of the lengths, wherever they stand.
@@ -38,17 +37,15 @@ pub inner_starts-requires-clause-some : goal.inner_starts-requires-clause-some
 inner_starts-requires-clause-some c =
     let here = fine c.args.t.now (c.deref-3.ensures.value ∙ c.in_ok-lengths.ensures) c.requires.layout.0 c.requires.long
     c.requires.lengths c.requires.few in
-    rw (c.deref-4.ensures.value, c.in_ok-sides.ensures.count)
-    (rims_some here c.in_ok-sides.sides.rims.items (sym
-    (length-map c.args.t.now.patches.items rectangle)) c.in_ok-sides.ensures.rims)
+    rw (c.deref-4.ensures.value, c.in_ok-sides.ensures.count) (rims_some here c.in_ok-sides.sides.rims.items
+    (sym (length-map c.args.t.now.patches.items rectangle)) c.in_ok-sides.ensures.rims)
 
 pub inner_starts-requires-clause-small : goal.inner_starts-requires-clause-small
 inner_starts-requires-clause-small c =
     let here = fine c.args.t.now (c.deref-3.ensures.value ∙ c.in_ok-lengths.ensures) c.requires.layout.0 c.requires.long
     c.requires.lengths c.requires.few in
-    rw (c.deref-4.ensures.value, c.in_ok-sides.ensures.count)
-    (inner_short here c.in_ok-sides.sides.rims.items (sym
-    (length-map c.args.t.now.patches.items rectangle)) c.in_ok-sides.ensures.rims)
+    rw (c.deref-4.ensures.value, c.in_ok-sides.ensures.count) (inner_short here c.in_ok-sides.sides.rims.items
+    (sym (length-map c.args.t.now.patches.items rectangle)) c.in_ok-sides.ensures.rims)
 
 pub returns-clause-places : goal.returns-clause-places
 returns-clause-places c =

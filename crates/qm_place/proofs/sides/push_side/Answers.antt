@@ -72,8 +72,6 @@ loop-used-preserved c = record {
         ≡ start_by (gluing_of (layout_of c.args.places.now.t.now)) (long_at (layout_of c.args.places.now.t.now).arcs)
         c.args.patch
         c.loop-used.used-index s
-    start_is s way =
-        c.start_of-start.ensures
-        ∙ (λ k. cond (back_by s way k) (c.old_size-whole.ensures s way k - c.loop-used.invariant.before s
-        way k - (old_is s way ∙ ap (long_at (layout_of c.args.places.now.t.now).arcs)
+    start_is s way = c.start_of-start.ensures ∙ (λ k. cond (back_by s way k) (c.old_size-whole.ensures s way k
+        - c.loop-used.invariant.before s way k - (old_is s way ∙ ap (long_at (layout_of c.args.places.now.t.now).arcs)
         (ap (λ (u : SideArc). u.arc) (here s way).same)) k) (c.loop-used.invariant.before s way k))

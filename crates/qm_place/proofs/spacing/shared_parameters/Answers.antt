@@ -47,13 +47,12 @@ loop-arc-preserved c = record {
         ap (before_arc (lengths_in c.args.lengths.now)) one),
   );
   each = λ arc k low some less. elim (cases_lt arc c.loop-arc.arc) [
-    | inl before ↦
-        c.in_ok-push_shared.ensures.kept (before_arc (lengths_in c.args.lengths.now) arc + k - 1) (omega (
-          arith,
-          c.loop-arc.invariant.long,
-          place_low (λ b. lengths_in c.args.lengths.now b - 1) c.loop-arc.arc arc (k - 1) before
-              (omega (arith, some, less)),
-        ))
+    | inl before ↦ c.in_ok-push_shared.ensures.kept (before_arc (lengths_in c.args.lengths.now) arc + k - 1) (omega (
+      arith,
+      c.loop-arc.invariant.long,
+      place_low (λ b. lengths_in c.args.lengths.now b - 1) c.loop-arc.arc arc (k - 1) before
+          (omega (arith, some, less)),
+    ))
         ∙ c.loop-arc.invariant.each arc k before some less
     | inr more ↦
         let same : c.loop-arc.arc ≡ arc = omega (arith, low, more) in
@@ -72,10 +71,9 @@ loop-arc-preserved c = record {
     here k some less =
         let place : before_arc (lengths_in c.args.lengths.now) c.loop-arc.arc + k - 1
         ≡ length c.loop-arc.parameters.items + (k - 1) = omega (arith, c.loop-arc.invariant.long) in
-        ap (slice_index c.push_shared.new.parameters.items) place
-        ∙ c.in_ok-push_shared.ensures.each (k - 1) (omega (arith, some, less))
-        ∙ arc_parameter (layout_of c.args.t.now) (lengths_in c.args.lengths.now) c.args.shares.now c.loop-arc.arc
-        (darts (goal.at.loop-arc-preserved c).After-deref) some less
+        ap (slice_index c.push_shared.new.parameters.items) place ∙ c.in_ok-push_shared.ensures.each (k - 1)
+        (omega (arith, some, less)) ∙ arc_parameter (layout_of c.args.t.now) (lengths_in c.args.lengths.now)
+        c.args.shares.now c.loop-arc.arc (darts (goal.at.loop-arc-preserved c).After-deref) some less
 
 pub returns : goal.returns
 returns c = record {

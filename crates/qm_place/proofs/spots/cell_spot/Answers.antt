@@ -9,11 +9,7 @@ use Rattle.qm_place.proofs.spots.cell_spot.Goals as goal
 pub index-requires : goal.index-requires
 index-requires c =
     let old = patch_read c.args.placed.now.t.now c.args.placed.now.placed c.requires.patch c.index-old.ensures in
-    omega (
-      arith,
-      cell_low old c.cell_at-a.ensures.low c.cell_at-b.ensures.low,
-      c.index-old.result.now.cells.ok.0,
-    )
+    omega (arith, cell_low old c.cell_at-a.ensures.low c.cell_at-b.ensures.low, c.index-old.result.now.cells.ok.0)
 
 pub returns : goal.returns
 returns c =

@@ -14,12 +14,7 @@ cell_spot-requires-clause-grid c =
     x c.args.patch) % (wide l x c.args.patch - 1) = λ k. (c.args.place - at.begin_is k) % (at.columns_are k - 1) in
     let row : (c.args.place - c.index.result.now) / (c.index-2.result.now.wide - 1) ≡ (c.args.place - before_patch l x
     c.args.patch) / (wide l x c.args.patch - 1) = λ k. (c.args.place - at.begin_is k) / (at.columns_are k - 1) in
-    let is = are.rims _ c.requires.inside.low in (
-      omega arith,
-      omega arith,
-      omega arith,
-      omega arith,
-    )
+    let is = are.rims _ c.requires.inside.low in (omega arith, omega arith, omega arith, omega arith)
 
 pub returns : goal.returns
 returns c =
@@ -28,6 +23,5 @@ returns c =
     let l = gluing_of (layout_of c.args.placed.now.t.now) in
     let at = offset_read are c.requires.inside.low c.index.ensures c.index-2.ensures in
     c.cell_spot.ensures ∙ (λ k. face_spot (layout_of c.args.placed.now.t.now) x (spacing_at c.args.placed.now)
-    c.args.patch
-    ((c.args.place - at.begin_is k) % (at.columns_are k - 1) + 1)
-    ((c.args.place - at.begin_is k) / (at.columns_are k - 1) + 1))
+    c.args.patch ((c.args.place - at.begin_is k) % (at.columns_are k - 1) + 1) ((c.args.place - at.begin_is k) /
+    (at.columns_are k - 1) + 1))

@@ -1,5 +1,5 @@
-use Rattle.std.proofs.Common.{rules, ◌≡◌, ◌-◌, ◌*◌, ◌/◌, ◌^◌, ◌<◌, ◌≤◌, ◌∙◌, arith}
-use Rattle.{std.proofs.lemmas.Nat.mul-le, def_written.specs.Places.ONE, qm_place.specs.Walks.share_in}
+use Rattle.std.proofs.Common.{rules, ◌≡◌, ◌-◌, ◌*◌, ◌/◌, ◌<◌, ◌∙◌, arith}
+use Rattle.{def_written.specs.Places.ONE, qm_place.specs.Walks.share_in}
 use Rattle.qm_place.proofs.{Rims.part_low, Rims.rest_low, walk.parameter_at.Goals.After-from-5}
 use Rattle.qm_place.proofs.walk.parameter_at.Goals as goal
 
@@ -14,9 +14,6 @@ share c = λ i. c.from-3.ensures i * (c.from-4.ensures ∙ c.share_at.ensures.va
 less : (c : After-from-5) → c.args.k * c.args.path.now.all - c.args.new * c.args.at.before
     < c.args.new * share_in c.args.path.now c.args.at.edge
 less c = search (rules, rest_low)
-
-few : (c : After-from-5) → c.args.new * share_in c.args.path.now c.args.at.edge ≤ 2 ^ 32 * 2 ^ 62
-few c = mul-le _ _ (2 ^ 32) (2 ^ 62) (omega arith) (omega arith)
 
 part : (c : After-from-5) → c.from-5.result * (c.from.result * c.args.path.now.all - c.from-2.result * c.args.at.before)
     / (c.from-3.result * c.from-4.result) < ONE
@@ -34,8 +31,7 @@ pub overflow_mul-result-2 : goal.overflow_mul-result-2
 overflow_mul-result-2 c = search (rules, less)
 
 pub nonzero_div-result : goal.nonzero_div-result
-nonzero_div-result c =
-    let at = (goal.at.nonzero_div-result c).After-from-5 in omega (arith, share at, less at)
+nonzero_div-result c = let at = (goal.at.nonzero_div-result c).After-from-5 in omega (arith, share at, less at)
 
 pub overflow_cast-result : goal.overflow_cast-result
 overflow_cast-result c = omega (arith, part (goal.at.overflow_cast-result c).After-from-5)

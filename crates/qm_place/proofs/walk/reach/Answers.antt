@@ -1,5 +1,5 @@
-use Rattle.std.proofs.Common.{rules, ◌≡◌, ◌+◌, ◌*◌, ◌^◌, ◌≤◌, length, ◌∙◌, arith}
-use Rattle.{std.proofs.lemmas.Nat.mul-le, written_laws.proofs.Spacings.count_rises, qm_place.specs.Walks.share_in}
+use Rattle.std.proofs.Common.{rules, ◌+◌, ◌^◌, ◌≤◌, length, arith}
+use Rattle.{std.proofs.lemmas.Nat.mul-le, written_laws.proofs.Spacings.count_rises}
 use Rattle.qm_place.proofs.{Rims.edge_is, Rims.next_low, walk.reach.Goals.After-from-in-edges-2}
 use Rattle.qm_place.proofs.walk.reach.Goals as goal
 
@@ -7,29 +7,20 @@ use Rattle.qm_place.proofs.walk.reach.Goals as goal
 few : (c : After-from-in-edges-2) → c.edges.at.before ≤ 2 ^ 83
 few c = search (rules, count_rises, length)
 
--- What is compared, as it is computed.
-upto : (c : After-from-in-edges-2) → c.from-in-edges.result * (c.edges.at.before + c.from-in-edges-2.result)
-    ≡ c.args.new * (c.edges.at.before + share_in c.args.path.now c.edges.at.edge)
-upto c = λ i. c.from-in-edges.ensures i * (c.edges.at.before + (c.from-in-edges-2.ensures ∙ c.edges.invariant.share) i)
-
-wish : (c : After-from-in-edges-2) → c.from.result * c.args.path.now.all ≡ c.args.k * c.args.path.now.all
-wish c = λ i. c.from.ensures i * c.args.path.now.all
-
 pub overflow_add-at : goal.overflow_add-at
 overflow_add-at c = omega (arith, few (goal.at.overflow_add-at c).After-from-in-edges-2)
 
 pub overflow_mul-from : goal.overflow_mul-from
-overflow_mul-from c =
-    omega (
-      arith,
-      mul-le c.from-in-edges.result (c.edges.at.before + c.from-in-edges-2.result) (2 ^ 32) (2 ^ 84)
-          (omega (arith, c.from-in-edges.ensures, c.ranges.new.fits)) (omega (
-            arith,
-            few (goal.at.overflow_mul-from c).After-from-in-edges-2,
-            c.from-in-edges-2.ensures,
-            c.edges.invariant.small,
-          )),
-    )
+overflow_mul-from c = omega (
+  arith,
+  mul-le c.from-in-edges.result (c.edges.at.before + c.from-in-edges-2.result) (2 ^ 32) (2 ^ 84)
+      (omega (arith, c.from-in-edges.ensures, c.ranges.new.fits)) (omega (
+        arith,
+        few (goal.at.overflow_mul-from c).After-from-in-edges-2,
+        c.from-in-edges-2.ensures,
+        c.edges.invariant.small,
+      )),
+)
 
 pub share_at-share-requires-in-edges : goal.share_at-share-requires-in-edges
 share_at-share-requires-in-edges c = search (rules, next_low)

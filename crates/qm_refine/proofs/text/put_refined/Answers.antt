@@ -22,9 +22,7 @@ returns-clause-whole g c =
     let laws = g.met.T.Output in
     on_ok_weaker c.put_new_mesh.result (laws.takes_more _ _ _ (refine_head c.args.by) _ c.in_ok-put_head.ensures.whole)
     (subst (λ (text : Bytes). OnOk c.put_new_mesh.result (g.T.Output.takes c.put_head.new.out c.put_new_mesh.new.out
-    text))
-    (evenly c.args.new.now c.args.by c.requires.lengths c.requires.even)
-    c.put_new_mesh.ensures.whole)
+    text)) (evenly c.args.new.now c.args.by c.requires.lengths c.requires.even) c.put_new_mesh.ensures.whole)
 
 pub returns-clause-part : goal.returns-clause-part
 returns-clause-part g c =
@@ -32,6 +30,4 @@ returns-clause-part g c =
     on_err_weaker c.put_new_mesh.result (laws.stops_later _ _ _ (refine_head c.args.by) _
     c.in_ok-put_head.ensures.whole)
     (subst (λ (text : Bytes). OnErr c.put_new_mesh.result (g.T.Output.stops c.put_head.new.out c.put_new_mesh.new.out
-    text))
-    (evenly c.args.new.now c.args.by c.requires.lengths c.requires.even)
-    c.put_new_mesh.ensures.part)
+    text)) (evenly c.args.new.now c.args.by c.requires.lengths c.requires.even) c.put_new_mesh.ensures.part)

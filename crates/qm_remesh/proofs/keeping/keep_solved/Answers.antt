@@ -7,19 +7,16 @@ plan_over-requires-clause-lengths c =
     are_lengths _ _ _ c.args.first _ c.requires.net.1 c.requires.solved c.deref.ensures.value
 
 pub raise-requires-clause-coarse : goal.raise-requires-clause-coarse
-raise-requires-clause-coarse c =
-    (doubled_first _ _ _ c.in-Err-Doubled.field-0 _ _ c.deref.ensures.value c.in-Err-Doubled.field-0-is
-    c.in-Err-Doubled.ensures.refused).0
+raise-requires-clause-coarse c = (doubled_first _ _ _ c.in-Err-Doubled.field-0 _ _ c.deref.ensures.value
+    c.in-Err-Doubled.field-0-is c.in-Err-Doubled.ensures.refused).0
 
 pub raise-requires-clause-doubled : goal.raise-requires-clause-doubled
-raise-requires-clause-doubled c =
-    doubled_some _ _ _ _ (doubled_first _ _ _ c.in-Err-Doubled.field-0 _ _ c.deref.ensures.value
-    c.in-Err-Doubled.field-0-is c.in-Err-Doubled.ensures.refused).1
+raise-requires-clause-doubled c = doubled_some _ _ _ _ (doubled_first _ _ _ c.in-Err-Doubled.field-0 _ _
+    c.deref.ensures.value c.in-Err-Doubled.field-0-is c.in-Err-Doubled.ensures.refused).1
 
 pub returns-in-Ok-clause-kept : goal.returns-in-Ok-clause-kept
 returns-in-Ok-clause-kept c = λ wish for. keeps_first _ _ _ c.args.first _ _ c.deref.ensures.value
-    (solved _ _ _ c.args.first for c.requires.solved)
-    (record {
+    (solved _ _ _ c.args.first for c.requires.solved) (record {
       numbering = c.in-Ok.ensures.numbering;
       lengths = c.in-Ok.ensures.lengths;
       undoubled = c.in-Ok.ensures.undoubled;

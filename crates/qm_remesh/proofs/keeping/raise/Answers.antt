@@ -1,9 +1,8 @@
-use Rattle.std.proofs.Common.{refl, arith}
 use Rattle.def_certtext.specs.{CertLines.lists_of, CertLines.raised, declared.certs.Rising.TheVariants.Third}
-use Rattle.def_remesh.specs.{Certified.AreKept, Keeping.IsNetFor, Tasks.Wish}
 use Rattle.qm_layoutnet.proofs.Floors.{floors_at, floors_even, has_floors}
 use Rattle.remesh_laws.proofs.Keeps.{are_lengths, bounded, keeps_third, long_lengths, none_doubled, solved, third_net}
-use Rattle.remesh_laws.proofs.Keeps.{too_fine}
+use Rattle.{std.proofs.Common.refl, std.proofs.Common.arith, def_remesh.specs.Certified.AreKept}
+use Rattle.{def_remesh.specs.Keeping.IsNetFor, def_remesh.specs.Tasks.Wish, remesh_laws.proofs.Keeps.too_fine}
 use Rattle.{def_flow.specs.Network.network, qm_remesh.proofs.keeping.raise.Goals.In_ok-cert}
 use Rattle.qm_remesh.proofs.keeping.raise.Goals as goal
 
@@ -38,8 +37,7 @@ kept wish c for = (
 
 pub returns-in-Ok-clause-kept : goal.returns-in-Ok-clause-kept
 returns-in-Ok-clause-kept c = λ wish for. keeps_third _ _ c.args.first c.in_ok-cert.cert _ _ c.deref.ensures.value
-    (kept wish (goal.at.returns-in-Ok-clause-kept c).In_ok-cert for)
-    (record {
+    (kept wish (goal.at.returns-in-Ok-clause-kept c).In_ok-cert for) (record {
       numbering = c.in-Ok.ensures.numbering;
       lengths = c.in-Ok.ensures.lengths;
       undoubled = c.in-Ok.ensures.undoubled;

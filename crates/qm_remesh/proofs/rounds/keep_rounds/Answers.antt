@@ -31,9 +31,8 @@ pub next_round-requires-clause-led : goal.next_round-requires-clause-led
 next_round-requires-clause-led c = (network c.args.net, c.requires.net, c.rounds.invariant)
 
 pub next_round-requires-clause-doubled : goal.next_round-requires-clause-doubled
-next_round-requires-clause-doubled c =
-    doubled_some _ _ _ _ (doubled_first _ _ _ c.in-Err-Doubled.field-0 _ _ c.deref.ensures.value
-    c.in-Err-Doubled.field-0-is c.in-Err-Doubled.ensures.refused).1
+next_round-requires-clause-doubled c = doubled_some _ _ _ _ (doubled_first _ _ _ c.in-Err-Doubled.field-0 _ _
+    c.deref.ensures.value c.in-Err-Doubled.field-0-is c.in-Err-Doubled.ensures.refused).1
 
 pub rounds-preserved : goal.rounds-preserved
 rounds-preserved c = c.in_ok-led-in-Err-Doubled.ensures.led (network c.args.net) c.rounds.invariant

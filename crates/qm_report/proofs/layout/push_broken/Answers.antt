@@ -1,11 +1,10 @@
 use Rattle.std.proofs.Common.{◌≡◌, ◌<◌, ◌+◌, ℕ, Bool, true, false, List, [], ◌∷◌, ◌++◌, Some, get_or, codes, sym, ap}
-use Rattle.std.proofs.Common.{◌∙◌, arith}
-use Rattle.std.proofs.lemmas.List.FromFn.{get_or-map-range_with_len}
-use Rattle.def_cuttext.specs.LayoutText.{break_line, place_in_file}
-use Rattle.def_mesh.specs.{Faces.Faces, Vertices.vertex_count}
-use Rattle.qm_report.proofs.{Texts.nothing_behind, Texts.piece_behind}
-use Rattle.qm_report.proofs.{layout.push_broken.Goals.then-index+in_ok-push_line, layout.push_broken.Goals.else-index}
-use Rattle.{def_feature.specs.Marks.is_break, def_report.specs.GraphText.numbers_line}
+use Rattle.std.proofs.{Common.◌∙◌, Common.arith, lemmas.List.FromFn.get_or-map-range_with_len}
+use Rattle.qm_report.proofs.layout.push_broken.Goals.{then-index+in_ok-push_line, else-index}
+use Rattle.{def_cuttext.specs.LayoutText.break_line, def_cuttext.specs.LayoutText.place_in_file}
+use Rattle.{def_mesh.specs.Faces.Faces, def_mesh.specs.Vertices.vertex_count, qm_report.proofs.Texts.nothing_behind}
+use Rattle.{qm_report.proofs.Texts.piece_behind, def_feature.specs.Marks.is_break}
+use Rattle.def_report.specs.GraphText.{numbers_line}
 
 pub loop-v-preserved : Rattle.qm_report.proofs.layout.push_broken.Goals.loop-v-preserved
 loop-v-preserved c =

@@ -9,9 +9,8 @@ side_behind : (sides : List (List Side)) (p k : ℕ) {four : List Side} (side : 
     → (word t : List ℕ) {b : List ℕ} {arcs : List SideArc} → arcs ≡ (get_or four k side).arcs.items
     → b ≡ t ++ numbers_line word (map (λ (used : SideArc). used.arc + 1) arcs) → b ≡ t ++ numbers_line word
     (map (λ (used : SideArc). used.arc + 1) (get_or (get_or (map (map arcs_of) sides) p []) k []))
-side_behind sides p k {four} side l is many lk word t read e =
-    e ∙ ap (λ (xs : List SideArc). t ++ numbers_line word (map (λ (used : SideArc). used.arc + 1) xs))
-    (read ∙ sym (read_side sides p k four side l is many lk))
+side_behind sides p k {four} side l is many lk word t read e = e ∙ ap (λ (xs : List SideArc). t ++ numbers_line word
+    (map (λ (used : SideArc). used.arc + 1) xs)) (read ∙ sym (read_side sides p k four side l is many lk))
 
 pub returns : Rattle.qm_report.proofs.parts.push_sides.Goals.returns
 returns c =

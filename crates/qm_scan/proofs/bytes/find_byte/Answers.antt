@@ -6,6 +6,5 @@ pub returns-then-byte-wanted-clause-exact : goal.returns-then-byte-wanted-clause
 returns-then-byte-wanted-clause-exact c = search (rules, position_or_len_is)
 
 pub returns-clause-exact : goal.returns-clause-exact
-returns-clause-exact c =
-    sym (position_or_len_is (λ b. eqb b c.args.wanted) c.args.text.now (length c.args.text.now) 0 (omega arith)
-    (λ k l. c.loop-i.invariant k (omega arith)) (λ l. absurd (omega arith)))
+returns-clause-exact c = sym (position_or_len_is (λ b. eqb b c.args.wanted) c.args.text.now (length c.args.text.now) 0
+    (omega arith) (λ k l. c.loop-i.invariant k (omega arith)) (λ l. absurd (omega arith)))

@@ -23,10 +23,8 @@ loop-d-preserved c =
           c.loop-d.table.run.items w.number-line.new.run c.loop-d.table.at.items w.number-line.new.at =
           rw (← count, ← w.deref_mut.ensures.value, ← w.deref_mut-then-index.ensures.value) w.number-line.ensures in
           rw (w.table-is, run, at, w.in_ok-push.ensures.items, w.in_ok-push-2.ensures.items)
-          (one_more c.faces.ensures.mesh.manifold c.loop-d.invariant low
-          (omega (arith, c.faces.ensures.mesh.few)) (sym read ∙ w.if-index.true)
-          w.first_of-first.ensures line (w.number-line.auto.run ∙ ap length w.deref_mut.ensures.value)
-          (w.number-line.auto.at ∙ ap length w.deref_mut-then-index.ensures.value))
-      | else-index w ↦
-          rw w.table-is (passed_by (λ e. w.if-index.false (read ∙ e)) c.loop-d.invariant)
+          (one_more c.faces.ensures.mesh.manifold c.loop-d.invariant low (omega (arith, c.faces.ensures.mesh.few))
+          (sym read ∙ w.if-index.true) w.first_of-first.ensures line (w.number-line.auto.run ∙ ap length
+          w.deref_mut.ensures.value) (w.number-line.auto.at ∙ ap length w.deref_mut-then-index.ensures.value))
+      | else-index w ↦ rw w.table-is (passed_by (λ e. w.if-index.false (read ∙ e)) c.loop-d.invariant)
     ]

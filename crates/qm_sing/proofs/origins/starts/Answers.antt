@@ -6,18 +6,14 @@ use Rattle.qm_sing.proofs.{origins.starts.Goals.then-may_start+in_ok-push, origi
 pub loop-d-preserved : Rattle.qm_sing.proofs.origins.starts.Goals.loop-d-preserved
 loop-d-preserved c = let s = c.args.classed.now in
     let ld : c.loop-d.d < darts s.mesh.now = omega (arith, c.loop-d-test.true, ap length c.faces.ensures.value) in
-    let t : c.may_start.result ≡ is_start s.mesh.now (seeds s.mesh.now) c.loop-d.d =
-    start_told _ c.from-v.ensures.value
-    (kind_read _ _ c.from-v.result Regular c.from-v.ensures.vertex s.classes)
-    (c.is_some.ensures ∙ ap is_some c.twin.ensures.value)
-    (mark_test c.faces.ensures.mesh.manifold c.args.marks.now c.from-v.result c.requires)
+    let t : c.may_start.result ≡ is_start s.mesh.now (seeds s.mesh.now) c.loop-d.d = start_told _ c.from-v.ensures.value
+    (kind_read _ _ c.from-v.result Regular c.from-v.ensures.vertex s.classes) (c.is_some.ensures ∙ ap is_some
+    c.twin.ensures.value) (mark_test c.faces.ensures.mesh.manifold c.args.marks.now c.from-v.result c.requires)
     c.from-v.ensures.vertex ld c.may_start.ensures in
     elim c.if-may_start.branch [
-      | then-may_start+in_ok-push w ↦ rw (w.starts-is, w.in_ok-push.ensures.items)
-          (ap (λ xs. xs ++ c.loop-d.d ∷ []) c.loop-d.invariant
-          ∙ sym (filter_on (is_start s.mesh.now (seeds s.mesh.now)) c.loop-d.d (sym t
-          ∙ w.if-may_start.true)))
-      | else-may_start w ↦ rw w.starts-is (c.loop-d.invariant
-          ∙ sym (filter_off (is_start s.mesh.now (seeds s.mesh.now)) c.loop-d.d (sym t
-          ∙ w.if-may_start.false)))
+      | then-may_start+in_ok-push w ↦ rw (w.starts-is, w.in_ok-push.ensures.items) (ap (λ xs. xs ++ c.loop-d.d ∷ [])
+          c.loop-d.invariant ∙ sym (filter_on (is_start s.mesh.now (seeds s.mesh.now)) c.loop-d.d
+          (sym t ∙ w.if-may_start.true)))
+      | else-may_start w ↦ rw w.starts-is (c.loop-d.invariant ∙ sym (filter_off (is_start s.mesh.now (seeds s.mesh.now))
+          c.loop-d.d (sym t ∙ w.if-may_start.false)))
     ]

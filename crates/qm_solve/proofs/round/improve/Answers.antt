@@ -7,9 +7,8 @@ use Rattle.qm_solve.proofs.{Starts.start_lengths, Rounds.own_inside, Rounds.bett
 use Rattle.qm_solve.proofs.round.improve.Goals as goal
 
 pub graph_of-requires-clause-lengths : goal.graph_of-requires-clause-lengths
-graph_of-requires-clause-lengths c =
-    rw c.deref.ensures.value (start_lengths (network c.args.descent.now.net.whole.now) c.args.descent.now.x.items
-    c.args.descent.now.net.bounds c.args.descent.now.start)
+graph_of-requires-clause-lengths c = rw c.deref.ensures.value (start_lengths (network c.args.descent.now.net.whole.now)
+    c.args.descent.now.x.items c.args.descent.now.net.bounds c.args.descent.now.start)
 
 pub matching_of-requires-clause-inside : goal.matching_of-requires-clause-inside
 matching_of-requires-clause-inside c =
@@ -38,10 +37,8 @@ returns-then-cost_of c =
     -ℤ pos (deviation net (entries c.in_ok-gadget.gadget.low.items)) =
     c.in_ok-known.ensures.cost ∙ ap (λ xs. pos (deviation net (entries xs))
     -ℤ pos (deviation net (entries c.in_ok-gadget.gadget.low.items))) c.deref-2.ensures.value in
-    better net c.args.descent.now.x.items c.in_ok-x.x.items
-    (deviation net (entries c.in_ok-gadget.gadget.low.items)) found known
-    c.in_ok-x.ensures.count c.in_ok-x.ensures.admissible less cost
-    (omega (
+    better net c.args.descent.now.x.items c.in_ok-x.x.items (deviation net (entries c.in_ok-gadget.gadget.low.items))
+    found known c.in_ok-x.ensures.count c.in_ok-x.ensures.admissible less cost (omega (
       arith,
       ints,
       c.in_ok-x.ensures.cost,
@@ -65,12 +62,10 @@ returns c =
     let xs : List ℕ = c.args.descent.now.x.items in
     let low : c.in_ok-gadget.gadget.low.items ≡ lows net c.args.descent.now.step xs =
     c.in_ok-gadget.ensures.low ∙ ap (lows net c.args.descent.now.step) c.deref.ensures.value in
-    let of_list : known ≡ pos (deviation net (entries xs))
-    -ℤ pos (deviation net (entries (lows net c.args.descent.now.step xs))) =
-    c.in_ok-known.ensures.cost
+    let of_list : known ≡ pos (deviation net (entries xs)) -ℤ pos
+    (deviation net (entries (lows net c.args.descent.now.step xs))) = c.in_ok-known.ensures.cost
     ∙ ap (λ ys. pos (deviation net (entries ys)) -ℤ pos (deviation net (entries c.in_ok-gadget.gadget.low.items)))
-    c.deref-2.ensures.value
-    ∙ ap (λ ls. pos (deviation net (entries xs)) -ℤ pos (deviation net (entries ls))) low in (
+    c.deref-2.ensures.value ∙ ap (λ ls. pos (deviation net (entries xs)) -ℤ pos (deviation net (entries ls))) low in (
       sums_meet net c.args.descent.now.step xs (graph c.in_ok-gadget.gadget.graph) (dual c.in_ok-dual.dual)
           c.in_ok-edges.edges.items c.in_ok-known.known.items c.args.descent.now.start.count
           (c.in_ok-gadget.ensures.graph ∙ ap (matching_graph net c.args.descent.now.step) c.deref.ensures.value)

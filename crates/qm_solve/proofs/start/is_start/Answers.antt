@@ -1,14 +1,13 @@
 use Rattle.std.proofs.Common.{◌≡◌, ◌<◌, ◌^◌, ℤ, sym, ◌∙◌, ap, true≢false}
-use Rattle.std.proofs.{lemmas.Int.to_z-of_z, lemmas.Bool.false≢true}
+use Rattle.def_flow.specs.Admissible.{AreNetLengths, IsAdmissible, deviation, entries}
+use Rattle.qm_solve.proofs.start.is_start.Goals.{then-not-are_lengths-via-then-not-are_lengths}
+use Rattle.qm_solve.proofs.start.is_start.Goals.{then-not-are_lengths-via-else-not-are_lengths+then-not-admissible}
+use Rattle.{std.proofs.lemmas.Int.to_z-of_z, std.proofs.lemmas.Bool.false≢true, def_flow.specs.Network.network}
+use Rattle.{qm_solve.proofs.Starts.near_is, qm_solve.proofs.Starts.start_lengths, std.specs.Prelude.pos}
+use Rattle.{std.specs.List.list_all, qm_solve.specs.Rounds.is_near_arc}
 use mir.Syntax.{w128}
 use mir.Val.{to_z, of_z}
 use lib.Signed.{mag}
-use Rattle.def_flow.specs.Admissible.{AreNetLengths, IsAdmissible, deviation, entries}
-use Rattle.def_flow.specs.Network.{network}
-use Rattle.qm_solve.proofs.start.is_start.Goals.{then-not-are_lengths-via-then-not-are_lengths}
-use Rattle.qm_solve.proofs.start.is_start.Goals.{then-not-are_lengths-via-else-not-are_lengths+then-not-admissible}
-use Rattle.qm_solve.proofs.Starts.{near_is, start_lengths}
-use Rattle.{std.specs.Prelude.pos, std.specs.List.list_all, qm_solve.specs.Rounds.is_near_arc}
 use Rattle.qm_solve.proofs.start.is_start.Goals as goal
 
 plain : (z : ℤ) → mag z < 2 ^ 127 → to_z w128 (of_z w128 z) ≡ z

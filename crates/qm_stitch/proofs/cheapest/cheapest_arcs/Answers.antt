@@ -17,14 +17,10 @@ returns c =
     let blank : c.deref_mut.result.now ≡ replicate many false = search rules in
     subst (AreMarksOf (layout_of c.args.numbered.now.t.now) c.args.remedies.items)
     (sym (with_items_is c.in_ok-chosen.chosen c.mark_firsts.new.chosen
-    (c.mark_firsts.auto.chosen ∙ c.deref_mut.ensures.len)))
-    (marks_of (layout_of c.args.numbered.now.t.now) c.args.remedies.items c.deref.result.now c.deref_mut.result.now
-    c.mark_firsts.new.chosen
+    (c.mark_firsts.auto.chosen ∙ c.deref_mut.ensures.len))) (marks_of (layout_of c.args.numbered.now.t.now)
+    c.args.remedies.items c.deref.result.now c.deref_mut.result.now c.mark_firsts.new.chosen
     (subst (IsPermutation c.args.remedies.items) (sym c.deref.ensures.value) c.sort.ensures.moved)
-    (subst AreInOrder (sym c.deref.ensures.value) c.sort.ensures.ordered)
-    (ap length blank ∙ length-replicate many false ∙ sym (length-map c.args.numbered.now.t.now.arcs.items path))
-    c.mark_firsts.auto.chosen
-    (λ arc low. ap (λ (marks : List Bool). get_or marks arc false) blank
-    ∙ get_or-replicate many arc false false
-    (omega (arith, low, length-map c.args.numbered.now.t.now.arcs.items path)))
-    c.mark_firsts.ensures)
+    (subst AreInOrder (sym c.deref.ensures.value) c.sort.ensures.ordered) (ap length blank ∙ length-replicate many false
+    ∙ sym (length-map c.args.numbered.now.t.now.arcs.items path)) c.mark_firsts.auto.chosen
+    (λ arc low. ap (λ (marks : List Bool). get_or marks arc false) blank ∙ get_or-replicate many arc false false
+    (omega (arith, low, length-map c.args.numbered.now.t.now.arcs.items path))) c.mark_firsts.ensures)

@@ -6,5 +6,4 @@ returns-in-Side c =
     let there : IsRunIn (layout_of c.args.numbered.now.t.now) (Side c.in-Side.patch c.in-Side.side) =
     subst (IsRunIn (layout_of c.args.numbered.now.t.now)) c.in-Side.is c.requires.run in
     let w = way_for _ there.1 in
-    rw c.in-Side.is
-    (rw (← w.1) (c.mark_side.ensures w.0 w.1))
+    rw c.in-Side.is (rw (← w.1) (c.mark_side.ensures w.0 w.1))

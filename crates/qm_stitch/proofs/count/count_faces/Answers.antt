@@ -10,9 +10,8 @@ use Rattle.qm_stitch.proofs.count.count_faces.Goals as goal
 
 -- All faces are few enough for 128 bits.
 few : (t : TMesh) (x : ℕ → ℕ) (is : IsSomeLayout (layout_of t)) → ((a : ℕ) → x a ≤ 10 ^ 12) → (p : ℕ)
-    → p < length t.patches.items
-    → cells_before (gluing_of (layout_of t)) x p + wide (gluing_of (layout_of t)) x p * high (gluing_of (layout_of t))
-    x p < 2 ^ 128
+    → p < length t.patches.items → cells_before (gluing_of (layout_of t)) x p + wide (gluing_of (layout_of t)) x p
+    * high (gluing_of (layout_of t)) x p < 2 ^ 128
 few t x is most p low =
     let l = gluing_of (layout_of t) in
     let l_low : suc p ≤ length (layout_of t).patches = omega (arith, length-map t.patches.items rectangle) in

@@ -1,9 +1,8 @@
 use Rattle.std.proofs.Common.{◌≡◌, ◌+◌, ◌<◌, ℕ, List, take, get_or, length, false, ◌∙◌, ap, arith, pos, ◌+ℤ◌, rules}
-use Rattle.std.proofs.Common.{w64, to_z, of_z}
-use Rattle.std.proofs.{lemmas.Int.ints, lemmas.Int.to_z-of_z, lemmas.List.take_more}
-use Rattle.def_layout.specs.{Lengths.Lengths, declared.tmesh.SideArc.SideArc}
+use Rattle.std.proofs.{Common.w64, Common.to_z, Common.of_z, lemmas.Int.ints, lemmas.Int.to_z-of_z}
 use Rattle.qm_stitch.specs.{Lengthened.lengths_by, Remedies.price_along, Remedies.short_price}
-use Rattle.{std.specs.Prelude.ℤ, sum_laws.proofs.Sums.total_append}
+use Rattle.{std.proofs.lemmas.List.take_more, def_layout.specs.Lengths.Lengths}
+use Rattle.{def_layout.specs.declared.tmesh.SideArc.SideArc, std.specs.Prelude.ℤ, sum_laws.proofs.Sums.total_append}
 
 more : (x : Lengths) (prices : List ℤ) (uses : List SideArc) (i : ℕ) (d : SideArc) → i < length uses
     → price_along x prices (take (i + 1) uses)

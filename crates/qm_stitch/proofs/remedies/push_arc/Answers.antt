@@ -24,8 +24,7 @@ loop-k-preserved c r =
 pub returns : goal.returns
 returns c r = told_so (c.loop-k.invariant r) (arc_both c.args.priced.now c.args.arc c.loop-k.k
     (omega (arith, c.requires.arc, length-map c.args.priced.now.keyed.numbered.t.now.arcs.items path))
-    (c.is_short_arc.ensures.0 c.if-not-is_short_arc.false)
-    (omega (
+    (c.is_short_arc.ensures.0 c.if-not-is_short_arc.false) (omega (
       arith,
       end_is c.args.priced.now.keyed.numbered c.args.arc c.index-k-end.result.now c.requires.arc c.index-k-end.ensures,
     )) r)

@@ -10,8 +10,5 @@ returns c r =
         | inl before ↦ inl before
         | inr same ↦ inr (sym same, c.is_repeat.ensures.0 c.if-not-is_repeat.false)
       ],
-      elim [
-        | inl before ↦ Contains-append_left old (new ∷ []) r before
-        | inr is ↦ rw is.0 (Contains-push old new)
-      ],
+      elim [ inl before ↦ Contains-append_left old (new ∷ []) r before | inr is ↦ rw is.0 (Contains-push old new) ],
     )

@@ -55,9 +55,5 @@ returns c r =
     let cost = to_z-of_z w128 c.price_along-price.result (search rules) ∙ c.price_along-price.ensures
     ∙ ap (price_along (lengths_by numbered) c.args.priced.now.prices.now) read in
     told_so (c.loop-number.invariant.adds r) (side_both c.args.priced.now c.args.patch c.args.side c.loop-number.number
-    _ c.requires.side
-    (omega arith)
-    cost
-    ((uses_tell (layout_of numbered.t.now)
-    (lengths_by numbered) c.args.patch c.args.side c.side_of-uses.result.now read).0
-    (c.is_some_short.ensures.0 c.if-not-is_some_short.false)) r)
+    _ c.requires.side (omega arith) cost ((uses_tell (layout_of numbered.t.now) (lengths_by numbered) c.args.patch
+    c.args.side c.side_of-uses.result.now read).0 (c.is_some_short.ensures.0 c.if-not-is_some_short.false)) r)

@@ -1,7 +1,6 @@
-use Rattle.std.proofs.{Common.◌≡◌, Common.rules, Common.[], Common.length, Common.ap, Common.sym, Common.arith}
-use Rattle.std.proofs.{lemmas.List.length-map}
+use Rattle.std.proofs.Common.{◌≡◌, rules, [], length, ap, sym, arith}
 use Rattle.qm_stitch.proofs.{DoubledPairs.told_all, DoubledPairs.told_more, Lines.all_both}
-use Rattle.{def_cut.specs.Grids.rectangle, def_layout.specs.Arcs.path}
+use Rattle.{std.proofs.lemmas.List.length-map, def_cut.specs.Grids.rectangle, def_layout.specs.Arcs.path}
 
 pub returns : Rattle.qm_stitch.proofs.remedies.remedies.Goals.returns
 returns c r =

@@ -8,8 +8,7 @@ returns-then-place-gt0 c =
     let keys = c.args.keyed.now.keys.now in
     let rises = c.args.keyed.now.rim.increasing in
     let place = c.in-Ok.place in
-    let at : (place < length keys) × (get_or keys place 0 ≡ c.args.key) =
-    searched keys c.args.key (Ok place)
+    let at : (place < length keys) × (get_or keys place 0 ≡ c.args.key) = searched keys c.args.key (Ok place)
     (subst (λ (r : Result ℕ ℕ). IsBinarySearchResult (λ y. nat_cmp y c.args.key) keys r) c.in-Ok.is
     c.binary_search.ensures.position) (λ i j le l. rises i j 0 le l) in (
       λ on. before_repeats keys rises place c.args.key at.0 at.1 c.if-place-gt0.true

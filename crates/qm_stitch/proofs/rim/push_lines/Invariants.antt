@@ -1,7 +1,6 @@
 use Rattle.std.proofs.Common.{◌≡◌, ◌≤◌, ◌-◌, ◌++◌, not}
-use Rattle.def_layout.specs.Lengths.{size}
-use Rattle.qm_stitch.specs.{Rims.along_lines, Rims.keys_of, Rims.lines_upto, Lengthened.gluing_in}
-use Rattle.qm_stitch.specs.{Lengthened.lengths_by}
+use Rattle.qm_stitch.specs.Rims.{along_lines, keys_of, lines_upto}
+use Rattle.{def_layout.specs.Lengths.size, qm_stitch.specs.Lengthened.gluing_in, qm_stitch.specs.Lengthened.lengths_by}
 
 abbrev pub invariant-loop-number : Rattle.qm_stitch.proofs.rim.push_lines.Given.invariant-loop-number
 invariant-loop-number l = record {

@@ -15,8 +15,7 @@ found c r = rw c.args.priced.now.same at (c.in_ok-remedies.ensures r)
 pub cheapest_arcs-requires : goal.cheapest_arcs-requires
 cheapest_arcs-requires c k d low =
     let w = (goal.at.cheapest_arcs-requires c).In_ok-remedies in
-    remedy_in _ _
-    _ _ ((found w _).0 (Contains-get_or c.in_ok-remedies.remedies.items k d low))
+    remedy_in _ _ _ _ ((found w _).0 (Contains-get_or c.in_ok-remedies.remedies.items k d low))
 
 long : (c : In_ok-remedies)
     → length c.args.priced.now.lengths.now ≡ length (layout_of c.args.priced.now.keyed.numbered.t.now).arcs
@@ -32,9 +31,8 @@ returns c =
     c.in_ok-chosen.ensures in
     let told = rw c.deref.ensures.value at c.is_any-some.ensures in
     record {
-      needed = IfOk-weaker c.rises_by.result _ _ (λ rises risen. choice_needed prices paved (long w)
-          (found w) marks told
-          risen c.args.priced.now.short) c.rises_by.ensures;
+      needed = IfOk-weaker c.rises_by.result _ _ (λ rises risen. choice_needed prices paved (long w) (found w) marks
+          told risen c.args.priced.now.short) c.rises_by.ensures;
       cheapest = IfOk-weaker c.rises_by.result _ _ (λ rises risen. choice_follows prices paved (long w) (found w) marks
           told risen) c.rises_by.ensures;
     }

@@ -13,9 +13,8 @@ returns-then-old-gt0 c =
     let some : 0 < length c.args.stretched.now.lengths.now = search rules in
     times_found (layout_of c.args.stretched.now.t.now) c.args.stretched.now.lengths.now
     (omega (arith, c.args.stretched.now.long, length-map c.args.stretched.now.t.now.arcs.items path))
-    c.args.stretched.now.even c.are_times.result
-    c.len-old.result (lengths_in c.args.stretched.now.lengths.now 0 / c.len-old.result) some
-    (omega (
+    c.args.stretched.now.even c.are_times.result c.len-old.result (lengths_in c.args.stretched.now.lengths.now 0 /
+    c.len-old.result) some (omega (
       arith,
       c.len-old.ensures,
       c.index.result.now.darts.ok.0,

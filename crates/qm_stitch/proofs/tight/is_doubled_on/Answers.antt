@@ -5,9 +5,8 @@ use Rattle.qm_stitch.proofs.{TightEdges.end_is, TightEdges.key_tells, tight.is_d
 use Rattle.{def_layout.specs.Arcs.path, def_written.specs.Edges.on_arc}
 use Rattle.qm_stitch.proofs.tight.is_doubled_on.Goals as goal
 
-told : (c : After-is_repeat) → (c.is_repeat.result ≡ true)
-    ↔ IsDoubled (gluing_in c.args.keyed.now.numbered) (lengths_by c.args.keyed.now.numbered)
-    (on_arc c.args.arc c.loop-k.k)
+told : (c : After-is_repeat) → (c.is_repeat.result ≡ true) ↔ IsDoubled (gluing_in c.args.keyed.now.numbered)
+    (lengths_by c.args.keyed.now.numbered) (on_arc c.args.arc c.loop-k.k)
 told c =
     let n = c.args.keyed.now.numbered in
     let many = length-map n.t.now.arcs.items path in

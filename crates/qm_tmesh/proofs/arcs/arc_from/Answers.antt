@@ -25,9 +25,8 @@ returns c =
     (length c.in_ok-darts.darts.items) back (omega (arith, made.run.some))) in
     let from_node : is_node s.mesh.now s.cut.now c.from.result ≡ true =
     ap (is_node s.mesh.now s.cut.now) c.from.ensures.value ∙ s.begins in
-    let to_node : is_node s.mesh.now s.cut.now c.to.result ≡ true =
-    ap (is_node s.mesh.now s.cut.now) (c.to.ensures.value ∙ ap (to_of s.mesh.now) end)
-    ∙ made.run.ends back (omega (arith, made.run.some)) in
+    let to_node : is_node s.mesh.now s.cut.now c.to.result ≡ true = ap (is_node s.mesh.now s.cut.now)
+    (c.to.ensures.value ∙ ap (to_of s.mesh.now) end) ∙ made.run.ends back (omega (arith, made.run.some)) in
     let one = node_place c.requires.marked _ _ nodes.placed c.from.ensures.vertex from_node in
     let two = node_place c.requires.marked _ _ nodes.placed c.to.ensures.vertex to_node in
     let first : c.index-first.result.now ≡ get_or nodes.listed.places.items c.from.result 0 =
@@ -44,6 +43,5 @@ returns c =
       first_at = ap (λ x. get_or nodes.listed.list.items x 0) first ∙ (one.1 ∙ c.from.ensures.value);
       last_at = λ k z. let same : back ≡ k = omega arith in
           ap (λ x. get_or nodes.listed.list.items x 0) last ∙ (two.1 ∙ (c.to.ensures.value
-          ∙ (ap (to_of s.mesh.now) end
-          ∙ ap (λ x. to_of s.mesh.now (easts (half_edges s.mesh.now) s.dart x)) same)));
+          ∙ (ap (to_of s.mesh.now) end ∙ ap (λ x. to_of s.mesh.now (easts (half_edges s.mesh.now) s.dart x)) same)));
     }

@@ -1,9 +1,8 @@
-use Rattle.std.proofs.{Common.◌≡◌, Common.◌≤◌, Common.List, Common.map, Common.length, Common.ap, Common.arith}
-use Rattle.std.proofs.{lemmas.List.length-map}
+use Rattle.std.proofs.Common.{◌≡◌, ◌≤◌, List, map, length, ap, arith}
 use Rattle.def_cut.specs.{FullCut.is_on, Grids.rectangle, Grids.IsPartition, Steps.face_of}
-use Rattle.def_layout.specs.{Arcs.path, declared.tmesh.TArc.TArc}
-use Rattle.qm_tmesh.proofs.{Built.marked_of, Built.table_of, Built.have_patches, Built.is_layout, UseTables.to_named}
-use Rattle.qm_tmesh.proofs.{UseTables.arcs_few, build.layout.Goals.In_ok-nodes}
+use Rattle.qm_tmesh.proofs.Built.{marked_of, table_of, have_patches, is_layout}
+use Rattle.qm_tmesh.proofs.{UseTables.to_named, UseTables.arcs_few, build.layout.Goals.In_ok-nodes}
+use Rattle.{std.proofs.lemmas.List.length-map, def_layout.specs.Arcs.path, def_layout.specs.declared.tmesh.TArc.TArc}
 use Rattle.{def_mesh.specs.Darts.darts, def_mesh.specs.HalfEdges.half_edges, qm_tmesh.specs.Tables.IsMarked}
 use Rattle.qm_tmesh.proofs.build.layout.Goals as goal
 

@@ -1,7 +1,6 @@
 use Rattle.std.proofs.Common.{◌≡◌, ◌+◌, length, [], ◌∷◌, ◌++◌, ap, ◌∙◌, length-append, arith, sym}
-use Rattle.{std.proofs.lemmas.List.append-nil, def_cut.specs.FullCut.is_on}
-use Rattle.qm_tmesh.proofs.{Walks.list_more, nodes.list_marked.Goals.then-on+in_ok-push-2}
-use Rattle.qm_tmesh.proofs.{nodes.list_marked.Goals.else-on}
+use Rattle.qm_tmesh.proofs.nodes.list_marked.Goals.{then-on+in_ok-push-2, else-on}
+use Rattle.{std.proofs.lemmas.List.append-nil, def_cut.specs.FullCut.is_on, qm_tmesh.proofs.Walks.list_more}
 
 pub loop-v-preserved : Rattle.qm_tmesh.proofs.nodes.list_marked.Goals.loop-v-preserved
 loop-v-preserved c =

@@ -15,9 +15,8 @@ unwrap-d-requires c =
 pub steps-preserved : goal.steps-preserved
 steps-preserved c =
     let place : c.steps.counter - 1 + 1 ≡ c.steps.counter = omega (arith, c.steps.auto.counter) in
-    let straight : straight_of c.args.mesh.now c.steps.d
-    ≡ Some (easts (half_edges c.args.mesh.now) c.args.first (c.steps.counter - 1 + 1)) =
-    ap (straight_of c.args.mesh.now) (c.steps.invariant.at (c.steps.counter - 1) place)
+    let straight : straight_of c.args.mesh.now c.steps.d ≡ Some (easts (half_edges c.args.mesh.now) c.args.first
+    (c.steps.counter - 1 + 1)) = ap (straight_of c.args.mesh.now) (c.steps.invariant.at (c.steps.counter - 1) place)
     ∙ c.requires.straight (c.steps.counter - 1) (omega (arith, c.steps.auto.counter, c.steps-test.true)) in
     let is : c.unwrap-d.result ≡ easts (half_edges c.args.mesh.now) c.args.first c.steps.counter =
     same_Some c.unwrap-d.result (easts (half_edges c.args.mesh.now) c.args.first (c.steps.counter - 1 + 1))

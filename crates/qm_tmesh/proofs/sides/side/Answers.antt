@@ -19,6 +19,5 @@ loop-t-preserved c =
     rw c.in_ok-push.ensures.items (
       begins,
       split,
-      side_more split so c.loop-t-test.true is
-          (omega (arith, c.len-t.ensures, long, c.index.result.now.darts.ok.0)),
+      side_more split so c.loop-t-test.true is (omega (arith, c.len-t.ensures, long, c.index.result.now.darts.ok.0)),
     )

@@ -1,9 +1,8 @@
 use Rattle.std.proofs.Common.{◌≡◌, ◌-◌, ◌<◌, true, false, map, length, get_or, set, ap, sym, ◌∙◌, refl, arith}
-use Rattle.std.proofs.lemmas.Option.{none-some, same_Some}
-use Rattle.def_mesh.specs.Darts.{darts, twin_of}
 use Rattle.def_layout.specs.Arcs.{path, path_at, long_at}
 use Rattle.qm_tmesh.proofs.{ArcTables.arc_read, ArcTables.read_at, UseTables.uses_more, uses.uses.Goals.in-Some}
-use Rattle.qm_tmesh.proofs.{uses.uses.Goals.in_default}
+use Rattle.{std.proofs.lemmas.Option.none-some, std.proofs.lemmas.Option.same_Some, def_mesh.specs.Darts.darts}
+use Rattle.{def_mesh.specs.Darts.twin_of, qm_tmesh.proofs.uses.uses.Goals.in_default}
 use Rattle.qm_tmesh.proofs.uses.uses.Goals as goal
 
 pub index-first-requires : goal.index-first-requires
@@ -49,8 +48,7 @@ loop-a-preserved c =
     (long_at (map path c.args.arcs.now) c.loop-a.a - 1) 0) = rw arc.same twin in
     elim c.match-twin.branch [
       | in-Some w ↦ rw w.uses-is (uses_more c.requires.marked c.requires.arcs {one = one} arc.low c.loop-a.invariant
-          begins ends refl low
-          (λ t q. ap (λ x. set one x (record { arc = c.loop-a.a; forward = false }))
+          begins ends refl low (λ t q. ap (λ x. set one x (record { arc = c.loop-a.a; forward = false }))
           (same_Some w.in-Some.t t (sym w.in-Some.is ∙ q)))
           (λ q. absurd (none-some w.in-Some.t (sym q ∙ w.in-Some.is))))
       | in_default w ↦ rw w.uses-is (uses_more c.requires.marked c.requires.arcs {one = one} arc.low c.loop-a.invariant

@@ -9,10 +9,9 @@ pub returns-in_err-soup : goal.returns-in_err-soup
 returns-in_err-soup g c state = handed_run _ c.from_residual.ensures.1 memory_ended refl
 
 pub returns-in_err-made : goal.returns-in_err-made
-returns-in_err-made g c state =
-    handed_run c.in_err-made.field-0.0 c.from_residual-in_err-made.ensures.1
-    (made_ended c.args.size (refl, refl) c.in_err-made.field-0.0
-    (rw c.in_ok-soup.ensures.soup at c.in_err-made.ensures.refused)) refl
+returns-in_err-made g c state = handed_run c.in_err-made.field-0.0 c.from_residual-in_err-made.ensures.1
+    (made_ended c.args.size (refl, refl) c.in_err-made.field-0.0 (rw c.in_ok-soup.ensures.soup
+    at c.in_err-made.ensures.refused)) refl
 
 pub returns : goal.returns
 returns g c state = search (rules, writer_runs, bench_writer)

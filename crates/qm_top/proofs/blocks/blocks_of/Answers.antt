@@ -10,5 +10,4 @@ invariant_of-result c =
     }
 
 pub returns : goal.returns
-returns c =
-    record { told = refl; parts = refl; points = refl; links = rw c.cut.ensures at c.in_ok-links.ensures }
+returns c = record { told = refl; parts = refl; points = refl; links = rw c.cut.ensures at c.in_ok-links.ensures }

@@ -35,12 +35,11 @@ pub write_framed-requires : goal.write_framed-requires
 write_framed-requires g c = kept_for c.in_ok-remesh.remesh c.in_ok-remesh.ensures.terms c.in_ok-remesh.ensures.kept
 
 pub returns-in_err-remesh-clause-refused : goal.returns-in_err-remesh-clause-refused
-returns-in_err-remesh-clause-refused g c bytes said =
-    handed _ _ _ c.from_residual-in_err-remesh.ensures.1 (
-      refl,
-      creased_fails bytes c.in_ok-cut.cut c.as_slice.ensures.value said c.in_ok-cut.ensures.soup
-          c.in_ok-cut.ensures.chosen c.args.settings _ c.in_err-remesh.ensures.refused,
-    )
+returns-in_err-remesh-clause-refused g c bytes said = handed _ _ _ c.from_residual-in_err-remesh.ensures.1 (
+  refl,
+  creased_fails bytes c.in_ok-cut.cut c.as_slice.ensures.value said c.in_ok-cut.ensures.soup
+      c.in_ok-cut.ensures.chosen c.args.settings _ c.in_err-remesh.ensures.refused,
+)
 
 pub returns-in_err-head-clause-refused : goal.returns-in_err-head-clause-refused
 returns-in_err-head-clause-refused g c bytes said = handed _ _ _ c.from_residual-in_err-head.ensures.1 (refl, tt)

@@ -10,10 +10,8 @@ pub net_of-requires-clause-layout : goal.net_of-requires-clause-layout
 net_of-requires-clause-layout c = rw c.layout-t.ensures.layout c.layout-t.ensures.laid.0
 
 pub deviation-requires-clause-lengths : goal.deviation-requires-clause-lengths
-deviation-requires-clause-lengths c =
-    subst (AreNetLengths c.in-Ok.net.arcs.items)
-    (sym (c.deref.ensures.value ∙ ap (λ (l : Lists). l.x) c.used_cert.ensures))
-    (kept_lengths c.half-settings.ensures
+deviation-requires-clause-lengths c = subst (AreNetLengths c.in-Ok.net.arcs.items)
+    (sym (c.deref.ensures.value ∙ ap (λ (l : Lists). l.x) c.used_cert.ensures)) (kept_lengths c.half-settings.ensures
     (bench_net c.layout-t.ensures.layout c.half-settings.ensures c.in-Ok.ensures.net)
     (certificates_of c.in_ok-kept.kept.certs) c.in_ok-kept.ensures.kept)
 
@@ -21,9 +19,8 @@ pub returns-clause-kept : goal.returns-clause-kept
 returns-clause-kept c =
     let fits : to_z w128 (of_z w128 c.deviation.result) ≡ c.deviation.result =
     omega (arith, ints, c.deviation.type_inv) in
-    deviation_kept c.half-settings.ensures
-    (bench_net c.layout-t.ensures.layout c.half-settings.ensures c.in-Ok.ensures.net)
-    (certificates_of c.in_ok-kept.kept.certs) _ c.layout-t.ensures.laid.0 c.in_ok-kept.ensures.kept
+    deviation_kept c.half-settings.ensures (bench_net c.layout-t.ensures.layout c.half-settings.ensures
+    c.in-Ok.ensures.net) (certificates_of c.in_ok-kept.kept.certs) _ c.layout-t.ensures.laid.0 c.in_ok-kept.ensures.kept
     (fits ∙ (c.deviation.ensures ∙ ap (λ (xs : List ℕ). pos (deviation (network c.in-Ok.net) (entries xs)))
     (c.deref.ensures.value ∙ ap (λ (l : Lists). l.x) c.used_cert.ensures)))
 

@@ -1,9 +1,8 @@
-use Rattle.std.proofs.Common.{None, refl}
-use Rattle.qm_write.specs.{Framing.framed_text, declared.text.Framed.Framed}
-use Rattle.qm_top.proofs.{Refusals.framed_shown, Refusals.kept_for, Refusals.put_refused, Refusals.wrote}
-use Rattle.qm_top.proofs.{finishing.finish.Goals.After-new}
-use Rattle.qm_top.specs.{Finishing.headed_task, Writing.refusal_of_put, Writing.FailsTask, Writing.IsOfLayout}
-use Rattle.{error_laws.proofs.Errors.handed, remesh_laws.specs.Keeps.ShowsTask}
+use Rattle.qm_top.proofs.Refusals.{framed_shown, kept_for, put_refused, wrote}
+use Rattle.qm_top.specs.Writing.{refusal_of_put, FailsTask, IsOfLayout}
+use Rattle.{std.proofs.Common.None, std.proofs.Common.refl, qm_write.specs.Framing.framed_text}
+use Rattle.{qm_write.specs.declared.text.Framed.Framed, qm_top.proofs.finishing.finish.Goals.After-new}
+use Rattle.{qm_top.specs.Finishing.headed_task, error_laws.proofs.Errors.handed, remesh_laws.specs.Keeps.ShowsTask}
 use Rattle.qm_top.proofs.finishing.finish.Goals as goal
 
 abbrev framed : (g : _) → After-new g → Framed
@@ -24,10 +23,9 @@ returns-in_err-write_framed-clause-refused g c = λ marks head on is.
     let kept = c.in_ok-remesh.ensures in
     handed _ _ (refusal_of_put failed.field-0.0) c.from_residual-in_err-write_framed.ensures.1
     (put_refused (ShowsTask task c.args.cut.soup) (IsOfLayout (FailsTask task c.args.cut.soup)) _
-    (framed_text made c.args.cut.soup c.args.cut.layout) failed.field-0.0
-    (framed_shown task made c.args.cut.soup c.args.cut.layout kept.laid on kept.terms kept.kept is c.new.ensures.items
-    refl)
-    tt failed.ensures.prefix failed.ensures.fault failed.ensures.untouched)
+    (framed_text made c.args.cut.soup c.args.cut.layout) failed.field-0.0 (framed_shown task made c.args.cut.soup
+    c.args.cut.layout kept.laid on kept.terms kept.kept is c.new.ensures.items refl) tt failed.ensures.prefix
+    failed.ensures.fault failed.ensures.untouched)
 
 pub returns-clause-done : goal.returns-clause-done
 returns-clause-done g c = λ marks head on is.

@@ -18,6 +18,5 @@ returns-clause-whole g c = search (
 pub returns-in_err-flush-clause-prefix : goal.returns-in_err-flush-clause-prefix
 returns-in_err-flush-clause-prefix g c is = search (
   rules,
-  rest_prefix _ _ _ _ c.new-text.ensures.empty
-      c.in_ok-put_framed.ensures.whole.1 c.in_err-flush.ensures.part,
+  rest_prefix _ _ _ _ c.new-text.ensures.empty c.in_ok-put_framed.ensures.whole.1 c.in_err-flush.ensures.part,
 )

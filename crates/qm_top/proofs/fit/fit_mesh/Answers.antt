@@ -18,9 +18,8 @@ framed g c = record {
   shares = c.in_ok-shares.shares;
 }
 
-shows : (g : _) (c : In_ok-between g) (bytes : Bytes)
-    → asides_in c.args.fit.now bytes c.args.read ≡ Ok (asides_of c.args.asides)
-    → ShowsAsked (AsksForNearFit c.args.fit.now) bytes c.args.read
+shows : (g : _) (c : In_ok-between g) (bytes : Bytes) → asides_in c.args.fit.now bytes c.args.read ≡ Ok
+    (asides_of c.args.asides) → ShowsAsked (AsksForNearFit c.args.fit.now) bytes c.args.read
     (framed_text (framed g c) c.in_ok-cut.cut.soup c.in_ok-cut.cut.layout)
 shows g c bytes said =
     let cut = c.in_ok-cut.ensures in

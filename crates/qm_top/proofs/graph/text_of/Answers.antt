@@ -7,8 +7,7 @@ returns c =
     let graph = c.in_ok-graph.graph in
     let layout = layout_of c.in_ok-layout.layout in
     IfOk-weaker c.graph_text.result (λ text. text.items ≡ graph_text faces graph.riders.items layout)
-    (λ text. IsGraphText faces text.items)
-    (λ text said. record {
+    (λ text. IsGraphText faces text.items) (λ text said. record {
       riders = graph.riders.items;
       rode = c.in_ok-graph.ensures.graph.riders;
       layout = layout;

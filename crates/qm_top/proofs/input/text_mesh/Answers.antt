@@ -16,9 +16,8 @@ pub returns : goal.returns
 returns c =
     let bytes = c.args.lines.now in
     let soup = c.in_ok-soup.soup in
-    let said : soup_in bytes ≡ Ok soup =
-    ap (text_soup 1) (sym (whole_range (lines_of bytes) c.count-after.result c.count-after.ensures))
-    ∙ c.in_ok-soup.ensures.soup in
+    let said : soup_in bytes ≡ Ok soup = ap (text_soup 1)
+    (sym (whole_range (lines_of bytes) c.count-after.result c.count-after.ensures)) ∙ c.in_ok-soup.ensures.soup in
     record {
       mesh = text_meshed bytes soup c.mesh_of.result said c.mesh_of.ensures.soup c.mesh_of.ensures.manifold;
       few = IfOk-weaker c.mesh_of.result (λ read. read ≡ soup) (λ read. length read.pos ≤ MAX_V_LINES)

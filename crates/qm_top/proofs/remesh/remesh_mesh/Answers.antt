@@ -11,6 +11,5 @@ returns g c =
     asked_ends (AsksToRemesh settings c.args.asked.auto) c.in_ok-cut.ensures.soup
     (headed_task (record { settings = settings; rising = c.third_if.result }) marks head)
     (λ bytes. ap (λ (r : Rising). headed_task (record { settings = settings; rising = r }) marks head)
-    c.third_if.ensures)
-    c.finish.result _ (c.finish.ensures.done marks head c.in_ok-cut.ensures.traced c.in_ok-head.ensures)
-    (c.finish.ensures.refused marks head c.in_ok-cut.ensures.traced c.in_ok-head.ensures)
+    c.third_if.ensures) c.finish.result _ (c.finish.ensures.done marks head c.in_ok-cut.ensures.traced
+    c.in_ok-head.ensures) (c.finish.ensures.refused marks head c.in_ok-cut.ensures.traced c.in_ok-head.ensures)

@@ -10,10 +10,9 @@ returns-in_err-put_face-clause-part g c =
     let laws = g.met.T.Output in
     let l = gluing_of c.args.new.now.layout in
     let lengths = lengths_in c.args.new.now.lengths in
-    of_error c.from_residual.result
-    (stops_at_number g.T.Output.takes g.T.Output.stops laws.stops_later laws.stops_before face_text (new_face l lengths)
-    (face_count l lengths) c.loop-f.f _ _ _ (subst (λ (n : ℕ). c.loop-f.f < n) c.faces-f-end.ensures c.loop-f-test.true)
-    c.loop-f.invariant
+    of_error c.from_residual.result (stops_at_number g.T.Output.takes g.T.Output.stops laws.stops_later
+    laws.stops_before face_text (new_face l lengths) (face_count l lengths) c.loop-f.f _ _ _
+    (subst (λ (n : ℕ). c.loop-f.f < n) c.faces-f-end.ensures c.loop-f-test.true) c.loop-f.invariant
     (subst (λ (face : Face). g.T.Output.stops c.loop-f.out c.put_face.new.out (face_text face)) c.face.ensures
     c.in_err-put_face.ensures.part))
 
@@ -37,5 +36,4 @@ returns-clause-whole g c =
       c.loop-f.auto.f-end,
     ) in
     subst (λ (n : ℕ). g.T.Output.takes c.args.out.now c.loop-f.out
-    (flat_map face_text (map (new_face l lengths) (range_with_len 0 n))))
-    all c.loop-f.invariant
+    (flat_map face_text (map (new_face l lengths) (range_with_len 0 n)))) all c.loop-f.invariant

@@ -22,18 +22,16 @@ pub returns-clause-whole : goal.returns-clause-whole
 returns-clause-whole g c =
     let lengths : c.deref.result.now ≡ (used (certificates_of c.args.framed.remesh.certs)).x = c.deref.ensures.value
     ∙ ap (λ (lists : Lists). lists.x) c.used_cert.ensures in
-    subst (g.T.Output.takes c.args.out.now c.put_parts.new.out)
-    (pieces_are c.args.framed.remesh.terms.rising _ _ _ (certificates_of c.args.framed.remesh.certs)
-    _ _ _ _ _ c.in_ok-new.ensures lengths c.in_ok-certificates.ensures)
+    subst (g.T.Output.takes c.args.out.now c.put_parts.new.out) (pieces_are c.args.framed.remesh.terms.rising _ _ _
+    (certificates_of c.args.framed.remesh.certs) _ _ _ _ _ c.in_ok-new.ensures lengths c.in_ok-certificates.ensures)
     c.in_ok-put_parts.ensures.whole
 
 pub returns-in_err-put_parts-clause-part : goal.returns-in_err-put_parts-clause-part
 returns-in_err-put_parts-clause-part g c is =
     let lengths : c.deref.result.now ≡ (used (certificates_of c.args.framed.remesh.certs)).x = c.deref.ensures.value
     ∙ ap (λ (lists : Lists). lists.x) c.used_cert.ensures in
-    subst (g.T.Output.stops c.args.out.now c.put_parts.new.out)
-    (pieces_are c.args.framed.remesh.terms.rising _ _ _ (certificates_of c.args.framed.remesh.certs)
-    _ _ _ _ _ c.in_ok-new.ensures lengths c.in_ok-certificates.ensures)
+    subst (g.T.Output.stops c.args.out.now c.put_parts.new.out) (pieces_are c.args.framed.remesh.terms.rising _ _ _
+    (certificates_of c.args.framed.remesh.certs) _ _ _ _ _ c.in_ok-new.ensures lengths c.in_ok-certificates.ensures)
     c.in_err-put_parts.ensures.part
 
 pub returns-clause-new : goal.returns-clause-new

@@ -10,12 +10,10 @@ returns-in_err-put_position-clause-part g c =
     let laws = g.met.T.Output in
     let new = c.args.new.now in
     let lengths = lengths_in new.lengths in
-    of_error c.from_residual.result
-    (stops_at_number g.T.Output.takes g.T.Output.stops laws.stops_later laws.stops_before position_text
-    (spaced_place new.soup.faces new.layout new.soup.pos new.shares lengths)
-    (vertices (gluing_of new.layout) lengths) c.loop-v.v _ _ _
-    (subst (λ (n : ℕ). c.loop-v.v < n) c.vertices-v-end.ensures
-    c.loop-v-test.true) c.loop-v.invariant
+    of_error c.from_residual.result (stops_at_number g.T.Output.takes g.T.Output.stops laws.stops_later
+    laws.stops_before position_text (spaced_place new.soup.faces new.layout new.soup.pos new.shares lengths)
+    (vertices (gluing_of new.layout) lengths) c.loop-v.v _ _ _ (subst (λ (n : ℕ). c.loop-v.v < n)
+    c.vertices-v-end.ensures c.loop-v-test.true) c.loop-v.invariant
     (subst (λ (p : Position). g.T.Output.stops c.loop-v.out c.put_position.new.out (position_text p))
     c.place_near-place.ensures.value c.in_err-put_position.ensures.part))
 
@@ -25,8 +23,7 @@ loop-v-preserved g c =
     let new = c.args.new.now in
     let lengths = lengths_in new.lengths in
     takes_number g.T.Output.takes laws.takes_more position_text (spaced_place new.soup.faces new.layout new.soup.pos
-    new.shares lengths)
-    c.loop-v.v _ _ _ c.loop-v.invariant
+    new.shares lengths) c.loop-v.v _ _ _ c.loop-v.invariant
     (subst (λ (p : Position). g.T.Output.takes c.loop-v.out c.put_position.new.out (position_text p))
     c.place_near-place.ensures.value c.in_ok-put_position.ensures.whole)
 
@@ -38,5 +35,4 @@ returns-clause-whole g c =
     omega (arith, c.vertices-v-end.ensures, c.loop-v-test.false, c.loop-v.auto.v-end) in
     subst (λ (n : ℕ). g.T.Output.takes c.args.out.now c.loop-v.out
     (flat_map position_text (map (spaced_place new.soup.faces new.layout new.soup.pos new.shares lengths)
-    (range_with_len 0 n))))
-    all c.loop-v.invariant
+    (range_with_len 0 n)))) all c.loop-v.invariant

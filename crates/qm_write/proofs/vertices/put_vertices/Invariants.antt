@@ -1,6 +1,5 @@
-use Rattle.std.specs.List.{flat_map, range_with_len}
-use Rattle.def_remesh.specs.{NewPoints.lengths_in, NewSoup.spaced_place}
-use Rattle.{std.proofs.Common.map, def_text.specs.Canonical.position_text}
+use Rattle.{std.specs.List.flat_map, std.specs.List.range_with_len, def_remesh.specs.NewPoints.lengths_in}
+use Rattle.{def_remesh.specs.NewSoup.spaced_place, std.proofs.Common.map, def_text.specs.Canonical.position_text}
 
 abbrev pub invariant-loop-v : Rattle.qm_write.proofs.vertices.put_vertices.Given.invariant-loop-v
 invariant-loop-v g l =

@@ -12,9 +12,8 @@ use Rattle.qm_marks.proofs.lines.MarkReader.take_corners.Goals as goal
 known : (c : After-names_nothing) → (is_malformed (words c.args.text.now) ≡ false)
     × (c.read_corners.new.indices.items ≡ map (corner_index c.args.self.now.all c.args.self.now.before)
     (words c.args.text.now))
-    × (c.names_nothing.result
-    ≡ list_any (λ word. is_nothing (corner_index c.args.self.now.all c.args.self.now.before word))
-    (words c.args.text.now))
+    × (c.names_nothing.result ≡ list_any
+    (λ word. is_nothing (corner_index c.args.self.now.all c.args.self.now.before word)) (words c.args.text.now))
 known c =
     let all = c.args.self.now.all in
     let before = c.args.self.now.before in

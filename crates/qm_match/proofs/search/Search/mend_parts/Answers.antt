@@ -28,9 +28,8 @@ loop-preserved c =
         | inl lt ↦ (λ mark. stay_right g f s.risen (f.holds (part_of s.forest c.args.set k)) mended
             (c.loop.invariant.right k lt mark))
         | inr ge ↦ (let e : c.loop.counter ≡ k = omega arith in
-            subst (λ p. get_or s.inner.items p false ≡ true
-            → AreRightAt g f s.risen c.mend_marked.new.self.tour (f.holds p)) (c.loop.invariant.here
-            ∙ ap (part_of s.forest c.args.set) e) right)
+            subst (λ p. get_or s.inner.items p false ≡ true → AreRightAt g f s.risen c.mend_marked.new.self.tour
+            (f.holds p)) (c.loop.invariant.here ∙ ap (part_of s.forest c.args.set) e) right)
       ];
     }
 

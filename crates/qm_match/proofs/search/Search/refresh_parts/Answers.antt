@@ -1,8 +1,7 @@
 use Rattle.std.proofs.Common.{rules, ◌≡◌, ◌<◌, ◌∙◌, length, get_or, inl, inr, sym, subst, ap, arith}
-use Rattle.std.proofs.{lemmas.Bool.cases_lt, lemmas.List.get_or_read}
-use Rattle.qm_match.specs.States.{IsFreshAt, MayRefresh}
-use Rattle.qm_match.proofs.{Chains.may_later, Chains.refreshed_on, Chains.stays_fresh}
-use Rattle.qm_match.proofs.{search.Search.refresh_parts.Goals.After-index-p}
+use Rattle.qm_match.proofs.Chains.{may_later, refreshed_on, stays_fresh}
+use Rattle.{std.proofs.lemmas.Bool.cases_lt, std.proofs.lemmas.List.get_or_read, qm_match.specs.States.IsFreshAt}
+use Rattle.{qm_match.specs.States.MayRefresh, qm_match.proofs.search.Search.refresh_parts.Goals.After-index-p}
 use Rattle.qm_match.proofs.search.Search.refresh_parts.Goals as goal
 
 low : (c : After-index-p) → c.loop-k.k < length c.args.self.now.parts.items

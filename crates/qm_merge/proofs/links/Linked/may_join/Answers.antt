@@ -1,8 +1,7 @@
 use Rattle.std.proofs.Common.{◌≡◌, Some, sym, ◌∙◌, true, true≢false, arith}
 use Rattle.def_mesh.specs.Darts.{next_of, prev_of, twin_of}
 use Rattle.qm_merge.proofs.Linked.{contrary, far_corner, far_is, has_twin, same_size, read_at}
-use Rattle.qm_merge.proofs.Rounds.{next_is_corner}
-use Rattle.{def_cut.specs.FullCut.is_on, qm_merge.specs.Links.at}
+use Rattle.{qm_merge.proofs.Rounds.next_is_corner, def_cut.specs.FullCut.is_on, qm_merge.specs.Links.at}
 use Rattle.qm_merge.proofs.links.Linked.may_join.Goals as goal
 
 pub returns-in_default : goal.returns-in_default

@@ -6,8 +6,7 @@ use Rattle.qm_mesh.proofs.mesh.Mesh.faces_at.Goals as goal
 
 count : {faces : Faces} {twins : List ℕ} {fans : List (SmallVec ℕ)} (v : ℕ) (fan : SmallVec ℕ)
     → IsMeshOf faces twins fans → v < vertex_count faces → fan ≡ get_or fans v fan → length fan.items ≡ faces_at faces v
-count {fans = fans} v fan k l e =
-    ap length (fan_found _ _ v fans fan k.each_fan
+count {fans = fans} v fan k l e = ap length (fan_found _ _ v fans fan k.each_fan
     (omega (arith, k.each_fan.long, length-map fans (λ (f : SmallVec ℕ). f.items))) e)
 
 pub overflow_cast-result : goal.overflow_cast-result

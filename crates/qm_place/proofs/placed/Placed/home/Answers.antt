@@ -41,12 +41,10 @@ index-requires c =
     omega (arith, low, c.index-old.result.now.cells.ok.0)
 
 -- The mean of four corners, and a corner as it is seen, of corners that are known.
-mean_is : {z a b c d e f g h : ℕ} → z ≡ (a + b + c + d) / 4 → a ≡ e → b ≡ f → c ≡ g → d ≡ h
-    → z ≡ (e + f + g + h) / 4
+mean_is : {z a b c d e f g h : ℕ} → z ≡ (a + b + c + d) / 4 → a ≡ e → b ≡ f → c ≡ g → d ≡ h → z ≡ (e + f + g + h) / 4
 mean_is z_is a_is b_is c_is d_is = cc
 
-seen_is : {z : Seen} {g h : GridPoint} {a b m n : ℕ} → z ≡ seen_from g a b → g ≡ h → a ≡ m → b ≡ n
-    → z ≡ seen_from h m n
+seen_is : {z : Seen} {g h : GridPoint} {a b m n : ℕ} → z ≡ seen_from g a b → g ≡ h → a ≡ m → b ≡ n → z ≡ seen_from h m n
 seen_is z_is g a b = z_is ∙ (λ k. seen_from (g k) (a k) (b k))
 
 pub returns : goal.returns

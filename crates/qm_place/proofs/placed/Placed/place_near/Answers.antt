@@ -18,9 +18,8 @@ place_there-requires-clause-short c =
     subst IsShort (sym c.spot_near.ensures) (short_spot (shares_by placed)
     c.requires.layout.0 placed.placed.lengths placed.placed.short c.requires.vertex)
 
-value : (c : goal.After-place_there)
-    → c.place_there.result ≡ spaced_place c.args.mesh.now (layout_in c.args.self.now) c.args.pos.now
-    (shares_by c.args.self.now) (lengths_by c.args.self.now) c.args.v
+value : (c : goal.After-place_there) → c.place_there.result ≡ spaced_place c.args.mesh.now (layout_in c.args.self.now)
+    c.args.pos.now (shares_by c.args.self.now) (lengths_by c.args.self.now) c.args.v
 value c =
     let placed = c.args.self.now in
     c.place_there.ensures ∙ ap (spot_place c.args.mesh.now c.args.pos.now) c.spot_near.ensures

@@ -23,7 +23,4 @@ returns-clause-few c =
 pub returns-clause-short : goal.returns-clause-short
 returns-clause-short c =
     let placed = c.args.self.now.placed in
-    let at = read (goal.at.returns-clause-short c).After-index in (
-      omega arith,
-      omega arith,
-    )
+    let at = read (goal.at.returns-clause-short c).After-index in (omega arith, omega arith)

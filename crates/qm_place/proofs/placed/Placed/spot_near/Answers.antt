@@ -15,9 +15,7 @@ along_spot-requires c =
     omega (arith, nodes, c.if-v-nodes.false, c.if-v-arcs_end.true, c.arcs_end-arcs_end.ensures) in
     let same : c.spot_near-near.result ≡ run_at (before_arc x) (length t.arcs) (c.args.v - c.len-nodes.result) =
     c.spot_near-near.ensures.run (λ b. x b - 1) (length t.arcs) (rw c.deref.ensures.value are.along) in
-    record {
-      along = on_arc t (shares_by c.args.self.now) x low same;
-    }
+    record { along = on_arc t (shares_by c.args.self.now) x low same }
 
 pub returns-then-v-arcs_end : goal.returns-then-v-arcs_end
 returns-then-v-arcs_end c =
@@ -42,9 +40,7 @@ inside_spot-requires c =
     let same : c.spot_near-near-2.result ≡ run_at (before_patch l x) (length t.patches)
     (c.args.v - c.arcs_end-arcs_end.result) = c.spot_near-near-2.ensures.run (λ p. (wide l x p - 1) * (high l x p - 1))
     (length t.patches) (rw c.deref-2.ensures.value are.inside) in
-    record {
-      inside = in_patch t (shares_by c.args.self.now) x low same;
-    }
+    record { inside = in_patch t (shares_by c.args.self.now) x low same }
 
 pub returns : goal.returns
 returns c =

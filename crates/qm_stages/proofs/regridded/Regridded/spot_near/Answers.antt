@@ -14,7 +14,4 @@ returns c =
     let value : c.spot_near.result ≡ spot_at new.layout new.shares (lengths_in new.lengths) c.args.v =
     cc (c.spot_near.ensures, is.layout, is.shares, is.lengths) in
     let spacing = spacing_is new.layout is.laid.0 (lengths_in new.lengths) is.even is.few new.shares in
-    record {
-      value = value;
-      spot = rw value (spot_law _ _ _ _ is.laid is.even spacing c.args.v c.requires.vertex).0;
-    }
+    record { value = value; spot = rw value (spot_law _ _ _ _ is.laid is.even spacing c.args.v c.requires.vertex).0 }

@@ -44,12 +44,10 @@ returns-then-i-wide c = on_east (gluing_in c.args.self.now) (lengths_by c.args.s
     c.if-i-eq0.false c.if-i-wide.true c.border_number-then-i-wide.ensures
 
 -- An inner point of the patch.
-here : (c : goal.After-row_known-1)
-    → (c.args.self.now.tables.now.nodes + c.last_of.result + c.index.result.now
-    + ((c.args.j - 1) * (c.size_at-wide.result - 1) + (c.args.i - 1))
-    ≡ vertex_number (gluing_in c.args.self.now) (lengths_by c.args.self.now)
-    (point (gluing_in c.args.self.now) (lengths_by c.args.self.now) c.args.patch c.args.i c.args.j))
-    × (c.args.self.now.tables.now.nodes + c.last_of.result + c.index.result.now
+here : (c : goal.After-row_known-1) → (c.args.self.now.tables.now.nodes + c.last_of.result + c.index.result.now
+    + ((c.args.j - 1) * (c.size_at-wide.result - 1) + (c.args.i - 1)) ≡ vertex_number (gluing_in c.args.self.now)
+    (lengths_by c.args.self.now) (point (gluing_in c.args.self.now) (lengths_by c.args.self.now) c.args.patch c.args.i
+    c.args.j)) × (c.args.self.now.tables.now.nodes + c.last_of.result + c.index.result.now
     + ((c.args.j - 1) * (c.size_at-wide.result - 1) + (c.args.i - 1)) < 2 ^ 23)
 here c =
     let numbers = c.args.self.now.numbers in
