@@ -13,10 +13,21 @@ CLOSING = {"(": ")", "{": "}", "[": "]"}
 TACTICS = {"search", "grind", "omega", "simp", "cc", "assumption", "rw", "unfolding"}
 OPERATORS = set("∙ = → ≡ + - * < ≤ ∷ ++ % / ^ : ↦ at ×".split())
 NO_DECLARATION = ("--", "let ", "in ", "|", "use ", "open ")
+BINDER = re.compile(r"[|\[] [^↦\[\]|]*↦|λ [^.]*\.(?=\s)|(?<!\S)let (\([^)]*\)|\S+)")
 
 
 def indent_of(line: str) -> int:
     return len(line) - len(line.lstrip())
+
+
+def heads_in(text: str) -> set[str]:
+    """The names in a text, each without what stands behind its first dot."""
+    return {word.split(".")[0] for word in WORD.findall(text)}
+
+
+def bound_in(text: str) -> set[str]:
+    """The names that a term binds, in branches, functions and `let`s, and those of their types."""
+    return {name for match in BINDER.finditer(text) for name in heads_in(match.group())}
 
 
 @dataclass(frozen=True)

@@ -5,13 +5,18 @@ from __future__ import annotations
 import re
 import subprocess
 from collections.abc import Iterator, Sequence
-from dataclasses import dataclass
+from contextlib import contextmanager
+from dataclasses import dataclass, replace
+from itertools import takewhile
 from pathlib import Path
 
 from shortening.lines import refilled
-from shortening.terms import TACTICS, WORD, Call, Declaration, Span, Terms, declarations
+from shortening.terms import TACTICS, WORD, Call, Declaration, Right, Span, Terms, bound_in, declarations, heads_in
 
-BOUNDS = " fits 150 steps 1500000"
+GIVEN = {"search": "rules", "grind": "arith"}
+BOUNDS = {"search": " fits 150 steps 1500000", "grind": " steps 600000"}
+COMMON = "Rattle.std.proofs.Common"
+MODULES = {"rules": COMMON, "arith": COMMON, "common_steps": "Rattle.std.proofs.lemmas.Grind"}
 MOST_FACTS = 14
 LEAST = 60
 STATEMENT = re.compile(r"[≡≤≢<↔×⊎¬⊥]|^(Is|Are|Has|All|Holds)")
@@ -23,32 +28,37 @@ UNREAD = re.compile(r"expected|unexpected|this line|`=` cannot")
 
 
 class NoVerdict(Exception):
-    """What `rt check` said where it failed for another reason than the proofs."""
+    """What `rt check` said where it failed for another reason than the proofs, or `rt fmt` where it failed."""
 
 
 @dataclass(frozen=True)
 class Edit:
-    """Another text for characters of a declaration: a search with these facts, or `_`."""
+    """Another text for characters of a declaration: a tactic with these facts, or `_`."""
 
     path: Path
     first: int
     start: int
     end: int
     facts: tuple[str, ...] | None
+    tactic: str = "search"
 
     @property
     def place(self) -> tuple[Path, int]:
         return self.path, self.first
 
-    def text(self, bounds: str = "") -> str:
+    def has(self, other: Edit) -> bool:
+        return self.place == other.place and self.start <= other.start and other.end <= self.end
+
+    def text(self, is_bounded: bool = False) -> str:
         if self.facts is None:
             return "_"
-        return (f"search ({', '.join(('rules', *self.facts))})" if self.facts else "search rules") + bounds
+        names = ", ".join((GIVEN[self.tactic], *self.facts))
+        return f"{self.tactic} {f'({names})' if self.facts else names}{BOUNDS[self.tactic] if is_bounded else ''}"
 
 
-def edited(text: str, edits: Sequence[Edit], bounds: str = "") -> str:
+def edited(text: str, edits: Sequence[Edit], is_bounded: bool = False) -> str:
     for it in sorted(edits, key=lambda it: -it.start):
-        text = text[: it.start] + it.text(bounds) + text[it.end :]
+        text = text[: it.start] + it.text(is_bounded) + text[it.end :]
     return text
 
 
@@ -93,21 +103,32 @@ class File:
         self.declarations = {it.first: it for it in declarations(self.lines)}
         imports = "\n".join(line for line in self.lines if line.startswith("use "))
         words = {word.rsplit(".", 1)[-1] for word in WORD.findall(imports)}
-        self.scope = (words | {it.name for it in self.declarations.values()}) & known
+        names = words | {it.name for it in self.declarations.values()}
+        self.scope, self.values = names & known, names - known | NO_LEMMA
 
-    def edits(self) -> Iterator[Edit]:
-        """What may stand for the terms of the file, and for arguments of its calls."""
+    def terms(self) -> Iterator[tuple[Declaration, Right, Terms]]:
+        """The right sides of the file's declarations."""
         for it in self.declarations.values():
             for right in it.rights():
-                terms = Terms(it.text[right.start : right.end]).read()
-                for span in terms.spans:
-                    facts = self.facts(it, right.left, terms, span)
-                    if facts is not None:
-                        start, end = right.start + span.start, right.start + span.end
-                        yield Edit(self.path, it.first, start, end, facts)
-                for call in terms.calls:
-                    for start, end in arguments_of(it, terms, call):
-                        yield Edit(self.path, it.first, right.start + start, right.start + end, None)
+                yield it, right, Terms(it.text[right.start : right.end]).read()
+
+    def tactics(self) -> Iterator[tuple[Edit, Edit, Edit]]:
+        """What may stand for each term of the file: what is tried first, and what where that fails."""
+        for of, right, terms in self.terms():
+            for span in terms.spans:
+                facts = self.facts(of, right.left, terms, span)
+                if facts is not None:
+                    first = Edit(self.path, of.first, right.start + span.start, right.start + span.end, facts)
+                    calls = self.calls(terms, span)
+                    grind = replace(first, facts=("common_steps", *calls), tactic="grind")
+                    yield first, grind, replace(first, facts=calls)
+
+    def blanks(self) -> Iterator[Edit]:
+        """Arguments of the file's calls, each as `_`."""
+        for of, right, terms in self.terms():
+            for call in terms.calls:
+                for start, end in arguments_of(of, terms, call):
+                    yield Edit(self.path, of.first, right.start + start, right.start + end, None)
 
     def facts(self, of: Declaration, left: str, terms: Terms, span: Span) -> tuple[str, ...] | None:
         """The lemmas that a term names and the calls of its own declaration, if a search may pay in its stead."""
@@ -122,6 +143,18 @@ class File:
             if it.name == of.name and span.start <= it.start and it.end <= span.end
         ]
         return (*named[:MOST_FACTS], *dict.fromkeys(own))
+
+    def calls(self, terms: Terms, span: Span) -> tuple[str, ...]:
+        """The calls in a term, each with its first arguments that name nothing which the term binds."""
+        bound, found = bound_in(terms.text[span.start : span.end]), list[str]()
+        for it in terms.calls:
+            within = span.start <= it.start and it.end <= span.end
+            if within and it.name not in self.values and it.name.split(".")[0] not in bound:
+                texts = [re.sub(r"\s+", " ", terms.text[start:end]) for start, end in it.arguments]
+                free = list(takewhile(lambda text: not BY_TACTIC.match(text) and not bound & heads_in(text), texts))
+                found += [" ".join([it.name, *free])] if free or it.name in self.scope else []
+        longest = [it for it in dict.fromkeys(found) if not any(other.startswith(f"{it} ") for other in found)]
+        return tuple(longest[:MOST_FACTS])
 
 
 def arguments_of(of: Declaration, terms: Terms, call: Call) -> Iterator[tuple[int, int]]:
@@ -159,33 +192,50 @@ class Proofs:
             raise NoVerdict(said)
         return found
 
-    def holding(self, tried: Sequence[Sequence[Edit]], bounds: str = BOUNDS) -> set[int]:
+    def holding(self, tried: Sequence[Sequence[Edit]], is_bounded: bool = True) -> set[int]:
         """The numbers of those of these edits, each of one declaration, that are accepted."""
         todo, lost = set(range(len(tried))), set[int]()
         while todo:
-            refused, unread = self.refused({number: tried[number] for number in sorted(todo)}, bounds)
+            refused, unread = self.refused({number: tried[number] for number in sorted(todo)}, is_bounded)
             lost |= refused or unread
             todo = unread - lost
         return set(range(len(tried))) - lost
 
-    def refused(self, tried: dict[int, Sequence[Edit]], bounds: str) -> tuple[set[int], set[int]]:
-        """Those that are refused, and those in files that one of them made unreadable."""
-        stands: dict[Path, list[tuple[range, int]]] = {}
+    @contextmanager
+    def copied(self, paths: Sequence[Path]) -> Iterator[dict[Path, Path]]:
+        """Where copies of these files stand: those of lemmas in modules of their own, which nothing above rests on."""
+        library = self.crate / "proofs" / "Lib.antt"
+        old = library.read_text(encoding="utf-8") if library.exists() else ""
+        own = [path for path in paths if path.name != "Answers.antt"] if old else []
+        to = {path: library.with_name(f"Tried{number}.antt") for number, path in enumerate(own)}
         try:
-            for path in {edits[0].path for edits in tried.values()}:
-                stands[path] = self.write_copies(path, tried, bounds)
-            refused, unread = set[int](), set[int]()
+            if to:
+                library.write_text("".join(f"mod {it.stem}\n" for it in to.values()) + old, encoding="utf-8")
+            yield {path: to.get(path, path) for path in paths}
+        finally:
+            if to:
+                library.write_text(old, encoding="utf-8")
+            for path in paths:
+                if path in to:
+                    to[path].unlink(missing_ok=True)
+                else:
+                    path.write_text(self.files[path].text, encoding="utf-8")
+
+    def refused(self, tried: dict[int, Sequence[Edit]], is_bounded: bool) -> tuple[set[int], set[int]]:
+        """Those that are refused, and those in files that one of them made unreadable."""
+        refused, unread = set[int](), set[int]()
+        with self.copied(sorted({edits[0].path for edits in tried.values()})) as to:
+            stands = {at: self.write_copies(path, at, tried, is_bounded) for path, at in to.items()}
             for path, line, why in self.check():
                 refused.update(int(number) for number in re.findall(r"\btried(\d+)_", why))
                 refused.update(number for at, number in stands.get(path, ()) if line in at)
                 if UNREAD.match(why):
                     unread.update(number for _, number in stands.get(path, ()))
-        finally:
-            for path in stands:
-                path.write_text(self.files[path].text, encoding="utf-8")
         return refused, unread
 
-    def write_copies(self, path: Path, tried: dict[int, Sequence[Edit]], bounds: str) -> list[tuple[range, int]]:
+    def write_copies(
+        self, path: Path, to: Path, tried: dict[int, Sequence[Edit]], is_bounded: bool
+    ) -> list[tuple[range, int]]:
         """Writes a file with a copy of its declaration for each of the edits, and says on which lines each stands."""
         file, found, at = self.files[path], list[str](), 0
         stands: list[tuple[range, int]] = []
@@ -194,11 +244,11 @@ class Proofs:
             of = self.declaration(edits[0].place)
             found += file.lines[at : of.end]
             at = max(at, of.end)
-            copy = renamed(of, edited(of.text, edits, bounds), f"tried{number}_{of.name}").split("\n")
+            copy = renamed(of, edited(of.text, edits, is_bounded), f"tried{number}_{of.name}").split("\n")
             stands.append((range(len(found) + 1, len(found) + 1 + len(copy)), number))
             found += copy
         lines, shift = imported([*found, *file.lines[at:]])
-        path.write_text("\n".join(lines), encoding="utf-8")
+        to.write_text("\n".join(lines), encoding="utf-8")
         return [(range(at.start + shift, at.stop + shift), number) for at, number in stands]
 
 
@@ -208,12 +258,20 @@ def renamed(of: Declaration, text: str, name: str) -> str:
 
 
 def imported(lines: list[str]) -> tuple[list[str], int]:
-    """The lines with an import of `rules`, and how many lines that puts before them."""
-    if any(re.match(r"use .*\brules\b", line) for line in lines):
-        return lines, 0
-    common = "use Rattle.std.proofs.Common.{"
-    for at, line in enumerate(lines):
-        if line.startswith(common) and len(line) < 113:
-            return [*lines[:at], line.replace(common, f"{common}rules, ", 1), *lines[at + 1 :]], 0
-    at = next((n for n, line in enumerate(lines) if line.startswith("use ")), 1)
-    return [*lines[:at], f"{common}rules}}", *lines[at:]], 1
+    """The lines with imports of what calls of tactics name beside lemmas, and how many lines that puts before them."""
+    found, shift = list(lines), 0
+    for name, module in MODULES.items():
+        named = re.compile(rf"(?<![^\s({{,.]){name}(?![^\s)}},])")
+        uses = [line for line in found if line.startswith("use ")]
+        text = [line for line in found if not line.startswith("use ") and not line.lstrip().startswith("--")]
+        if any(map(named.search, uses)) or not any(map(named.search, text)):
+            continue
+        head = f"use {module}.{{"
+        at = next((n for n, line in enumerate(found) if line.startswith(head) and len(line + name) < 119), None)
+        if at is not None:
+            found[at] = found[at].replace(head, f"{head}{name}, ", 1)
+        else:
+            first = next((n for n, line in enumerate(found) if line.startswith("use ")), 1)
+            found.insert(first, f"{head}{name}}}")
+            shift += 1
+    return found, shift

@@ -8,8 +8,8 @@ import unittest
 sys.path.insert(0, str(pathlib.Path(__file__).resolve().parents[1]))
 
 from shortening.lines import refilled  # noqa: E402
-from shortening.terms import Terms, declarations  # noqa: E402
-from shortening.trial import Edit, Proofs, edited, outermost, renamed  # noqa: E402
+from shortening.terms import Terms, bound_in, declarations, heads_in  # noqa: E402
+from shortening.trial import Edit, Proofs, edited, imported, outermost, renamed  # noqa: E402
 
 FILE = """-- Two lemmas.
 use Rattle.std.proofs.Common.{◌≡◌, ℕ, zero, suc}
@@ -64,6 +64,12 @@ class Read(unittest.TestCase):
         self.assertEqual(calls["step"], ["(suc n)", "(omega arith)", "l"])
         self.assertEqual(calls["high"], ["(suc n)", "less"])
 
+    def test_names_that_a_term_binds(self):
+        text = "let (a, b) = f x in elim (cases n) [ inl e ↦ λ (k : ℕ). k | inr ne ↦ b.0 ]"
+        self.assertTrue({"a", "b", "e", "k", "ne"} <= bound_in(text))
+        self.assertFalse({"f", "x", "cases", "n"} & bound_in(text))
+        self.assertEqual(heads_in("(b.0 e)"), {"b", "e"})
+
 
 class Written(unittest.TestCase):
     def setUp(self):
@@ -95,6 +101,14 @@ class Written(unittest.TestCase):
         self.assertEqual(edited("high = 3", [search, blank]), "_ = search (rules, low)")
         self.assertEqual(outermost([search, Edit(path, 0, 5, 8, ())]), [Edit(path, 0, 5, 8, ())])
 
+    def test_tactics(self):
+        grind = Edit(pathlib.Path("A.antt"), 0, 7, 8, ("common_steps",), "grind")
+        self.assertEqual(edited("high = 3", [grind], is_bounded=True)[7:], "grind (arith, common_steps) steps 600000")
+        lines, shift = imported(["-- The rules.", FILE[1], "", "high = grind (arith, common_steps)"])
+        self.assertEqual(shift, 1)
+        self.assertEqual(lines[1], "use Rattle.std.proofs.lemmas.Grind.{common_steps}")
+        self.assertEqual(lines[2], "use Rattle.std.proofs.Common.{arith, ◌≡◌, ℕ, zero, suc}")
+
     def test_copies_have_a_name_of_their_own(self):
         copy = renamed(self.low, "pub low : (low_of, low)", "tried1_low")
         self.assertEqual(copy, "tried1_low : (low_of, tried1_low)")
@@ -109,7 +123,8 @@ class Tried(unittest.TestCase):
         self.path = pathlib.Path(room.name) / "Two.antt"
         self.path.write_text("\n".join(FILE))
         self.proofs = Proofs(self.path.parent, [self.path], {"step"})
-        self.low = next(it for it in self.proofs.files[self.path].edits() if it.facts)
+        self.tactics = list(self.proofs.files[self.path].tactics())
+        self.low = next(first for first, _, _ in self.tactics if first.facts)
         self.texts = []
 
     def check_says(self, *answers):
@@ -120,6 +135,30 @@ class Tried(unittest.TestCase):
             return [(self.path, *error) for error in next(answers)]
 
         self.proofs.check = check
+
+    def test_grind_has_the_calls_of_a_term_as_far_as_they_bind_nothing(self):
+        _, grind, search = self.tactics[0]
+        self.assertEqual(grind.facts, ("common_steps", "step (suc n)", "cases n"))
+        self.assertEqual(search.text(), "search (rules, step (suc n), cases n)")
+
+    def test_copies_of_lemmas_stand_in_modules_of_their_own(self):
+        folder = self.path.parent / "proofs"
+        folder.mkdir()
+        library, path = folder / "Lib.antt", folder / "Two.antt"
+        library.write_text("mod Two\n")
+        path.write_text("\n".join(FILE))
+        proofs = Proofs(self.path.parent, [path], {"step"})
+        low = next(first for first, _, _ in proofs.files[path].tactics() if first.facts)
+        own, seen = folder / "Tried0.antt", []
+
+        def check():
+            seen.append((library.read_text(), "tried1_low" in own.read_text(), path.read_text()))
+            return [(own, own.read_text().split("\n").index("tried0_low : (n : ℕ) → n < 3") + 1, "no proof")]
+
+        proofs.check = check
+        self.assertEqual(proofs.holding([[low], [low]]), {1})
+        self.assertEqual(seen, [("mod Tried0\nmod Two\n", True, "\n".join(FILE))])
+        self.assertEqual((library.read_text(), own.exists()), ("mod Two\n", False))
 
     def test_what_is_refused_by_name_does_not_hold(self):
         self.check_says([(1, "`tried1_low`: no proof")])
