@@ -1,17 +1,15 @@
 -- The lines and the words of a canonical text.
-use Rattle.std.proofs.Common.{rules, Bool, List, arith, cond, eqb, false, get_or, length, refl, true, ◌&&◌, ◌++◌, []}
-use Rattle.std.proofs.Common.{ap, leb, not, suc, ℕ, ◌%◌, ◌*◌, ◌+◌, ◌-◌, ◌/◌, ◌<◌, ◌^◌, ◌∙◌, ◌∷◌, ◌≡◌, ◌≤◌, ℤ}
-use Rattle.std.proofs.{lemmas.List.append_assoc, lemmas.List.length-append, lemmas.List.Elements.All-drop}
-use Rattle.std.proofs.{lemmas.List.Elements.All-take, lemmas.Bool.and_from, lemmas.Bool.and_parts}
-use Rattle.std.proofs.{lemmas.List.Folds.list_all-append, lemmas.Bool.Decides.nat_tests, lemmas.Fmt.decimal_nonempty}
-use Rattle.std.specs.{Prelude.decimal, Prelude.unsigned_abs, List.flat_map, List.list_all, List.suffix_len}
-use Rattle.def_text.specs.Canonical.{fraction_text, micro_text, six_digits, without_zeros}
-use Rattle.qm_obj.proofs.TailLemmas.{all_before, all_from, lines_fed, none_from_all, passes_at, same_last}
 use Rattle.std.proofs.lemmas.List.Sums.{AllPass-from_list_all, list_all-from_AllPass}
-use Rattle.def_text.specs.Logical.{Logical, continues, logical_lines}
-use Rattle.def_text.specs.Words.{ends_word, is_blank, words}
-use Rattle.{std.proofs.lemmas.Fmt.length-decimal-le, std.specs.Char.is_ascii_digit, def_io.specs.Bytes.Lines}
-use Rattle.{def_io.specs.Lines.lines_of, def_text.specs.Types.Words, qm_dec.proofs.ReadBack.decimal_digits}
+use Rattle.std.proofs.lemmas.List.{length-append, Folds.list_all-append, Elements.All-drop, Elements.All-take}
+use Rattle.std.proofs.lemmas.{List.append_assoc, Fmt.length-decimal-le, Fmt.decimal_nonempty, Bool.Decides.nat_tests}
+use Rattle.std.proofs.Common.{rules, Bool, List, arith, eqb, false, get_or, length, refl, true, ◌&&◌, ◌++◌, leb, not, ℕ}
+use Rattle.std.proofs.Common.{[], suc, ◌%◌, ◌*◌, ◌+◌, ◌-◌, ◌/◌, ◌<◌, ◌^◌, ◌∙◌, ◌∷◌, ◌≡◌, ◌≤◌, ℤ}
+use Rattle.qm_obj.proofs.TailLemmas.{all_before, all_from, lines_fed, none_from_all, passes_at, same_last}
+use Rattle.def_text.specs.Canonical.{fraction_text, without_zeros, micro_text, six_digits}
+use Rattle.std.specs.{Prelude.unsigned_abs, Prelude.decimal, List.suffix_len, List.flat_map, Char.is_ascii_digit}
+use Rattle.def_text.specs.{Words.ends_word, Words.is_blank, Logical.logical_lines, Logical.continues, Logical.Logical}
+use Rattle.{std.proofs.lemmas.Bool.and_from, qm_dec.proofs.ReadBack.decimal_digits, def_io.specs.Lines.lines_of}
+use Rattle.{std.specs.List.list_all, def_text.specs.Words.words, def_text.specs.Types.Words, def_io.specs.Bytes.Lines}
 
 -- The bytes of words: from the minus to the digits.
 abbrev pub is_plain : ℕ → Bool
@@ -58,11 +56,8 @@ pub micro_word : (z : ℤ) → unsigned_abs z ≤ 999_999_999_999_999 → IsWord
 micro_word z near =
     let whole = decimal_word (unsigned_abs z / 10 ^ 6) (omega arith) in
     let twenty = length-decimal-le 20 (unsigned_abs z / 10 ^ 6) (omega arith) (omega arith) (omega arith) in
-    let behind = fraction_plain (unsigned_abs z % 10 ^ 6) (omega arith) in search (rules, length-append, all_both)
-  where
-    by_sign : (t : Bool) → (list_all is_plain (cond t (45 ∷ []) []) ≡ true) × (length {A = ℕ} (cond t (45 ∷ []) []) ≤ 1)
-    by_sign true = (refl, omega arith)
-    by_sign false = (refl, omega arith)
+    let behind = fraction_plain (unsigned_abs z % 10 ^ 6) (omega arith) in
+    search (rules, length-append, list_all-append)
 
 -- A letter and words behind it, with a blank before each.
 abbrev pub line_text : ℕ → Words → List ℕ
@@ -75,19 +70,18 @@ blank_next (w ∷ ws) = refl
 
 word_then : (b : ℕ) (bs rest : List ℕ) → list_all is_plain (b ∷ bs) ≡ true → ends_word rest ≡ true
     → words (b ∷ bs ++ rest) ≡ (b ∷ bs) ∷ words rest
-word_then b [] rest plain ends = rw (plain_word b (and_parts _ _ plain).0, ends) refl
-word_then b (c ∷ cs) rest plain ends =
-    let parts = and_parts (is_plain b) _ plain in search (rules, word_then c cs rest parts.1 ends)
+word_then b [] rest plain ends = search (rules, plain_word)
+word_then b (c ∷ cs) rest plain ends = search (rules, plain_word, word_then c cs rest)
 
 words_behind : (ws : Words) → AreWords ws → words (flat_map (λ w. 32 ∷ w) ws) ≡ ws
 words_behind [] each = refl
 words_behind ([] ∷ ws) each = absurd (omega (arith, (each 0 (omega arith)).some))
-words_behind ((b ∷ bs) ∷ ws) each = word_then b bs (flat_map (λ w. 32 ∷ w) ws) (each 0 (omega arith)).plain
-    (blank_next ws) ∙ ap (λ rest. (b ∷ bs) ∷ rest) (words_behind ws (λ k l. each (suc k) (omega arith)))
+words_behind ((b ∷ bs) ∷ ws) each = search
+    (rules, word_then, blank_next, (each 0 (omega arith)).plain, words_behind ws (λ k l. each (suc k) (omega arith)))
 
 pub line_words : (letter : ℕ) (ws : Words) → is_blank letter ≡ false → AreWords ws
     → words (line_text letter ws) ≡ (letter ∷ []) ∷ ws
-line_words letter ws bare each = rw (bare, blank_next ws) (ap (λ rest. (letter ∷ []) ∷ rest) (words_behind ws each))
+line_words letter ws bare each = search (rules, blank_next, words_behind)
 
 -- Its bytes are tame, and it is short.
 behind_line : (ws : Words) → AreWords ws → (list_all is_tame (flat_map (λ w. 32 ∷ w) ws) ≡ true)
@@ -133,8 +127,7 @@ plain_lines number (l ∷ ls) = record { number = number; size = length l; text 
 
 pub no_continuation : (line : List ℕ) → list_all is_tame line ≡ true → continues line ≡ false
 no_continuation [] tame = refl
-no_continuation (b ∷ bs) tame =
-    grind (arith, nat_tests, passes_at is_tame (b ∷ bs) (length (b ∷ bs) - 1) 0 tame (omega arith))
+no_continuation (b ∷ bs) tame = search (rules, nat_tests, passes_at)
 
 pub logical_plain : (number : ℕ) (ls : Lines) → ((k : ℕ) → k < length ls → IsLine (get_or ls k []))
     → logical_lines number ls ≡ plain_lines number ls

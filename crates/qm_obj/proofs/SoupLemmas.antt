@@ -1,19 +1,16 @@
 -- The used positions and the faces over them are a soup.
-use Rattle.std.proofs.Common.{rules, Bool, List, None, arith, cond, eqb, false, get_or, length, nat_lt, refl, true}
-use Rattle.std.proofs.Common.{zero, ◌&&◌, [], ap, inl, inr, leb, ltb, map, suc, sym, ℕ, ◌++◌, ◌+◌, ◌-◌, ◌<◌, ◌∙◌, ◌∷◌}
-use Rattle.std.proofs.Common.{◌≡◌, ◌≤◌}
-use Rattle.std.proofs.lemmas.Bool.{and_parts, cases_Bool, cases_lt, false≢true, eq-eqb, leb-true, lt-ltb, ltb-true}
-use Rattle.std.proofs.lemmas.List.Sums.{count_by-le-length, length-filter, list_all-from_AllPass}
-use Rattle.std.proofs.lemmas.List.{get_or_append_left, get_or_push, length-append, length_push, append-nil, length-map}
-use Rattle.std.proofs.lemmas.List.{map_push, take_more_set, drop_more, Elements.filter-append, Elements.filter_passes}
+use Rattle.std.proofs.lemmas.List.{Sums.count_by-le-length, Kept.IsStrictlyIncreasing-filter, Elements.filter-append}
+use Rattle.std.proofs.lemmas.List.{get_or_append_left, length-append, Sums.length-filter, Elements.filter_passes}
+use Rattle.std.proofs.lemmas.List.{get_or_push, length_push, append-nil, length-map, take_more_set, drop_more, map_push}
+use Rattle.std.proofs.lemmas.{Grind.drop_more_same, Bool.Decides.nat_tests, Bool.false≢true, Bool.cases_lt}
+use Rattle.std.proofs.Common.{rules, Bool, List, None, arith, cond, false, get_or, length, nat_lt, refl, true, zero, []}
+use Rattle.std.proofs.Common.{eqb, ◌&&◌, leb, ltb, map, suc, sym, ℕ, ◌++◌, ◌+◌, ◌-◌, ◌<◌, ◌∙◌, ◌∷◌, ◌≡◌, ◌≤◌, drop, set}
 use Rattle.qm_obj.specs.Kept.{are_numbers, first_late, IsCounted, IsKept, IsMarked, chosen}
-use Rattle.std.proofs.{lemmas.Bool.Decides.nat_tests, lemmas.List.Kept.IsStrictlyIncreasing-filter}
-use Rattle.std.proofs.{lemmas.List.Folds.list_any_at, lemmas.List.Folds.list_all-map, lemmas.Grind.drop_more_same}
-use Rattle.std.specs.{List.Sorted.IsStrictlyIncreasing, List.list_all, List.list_any, Prelude.IsTrue}
-use Rattle.def_text.specs.{FaceSet.FaceSet, FaceSet.IsSoup, Text.line_vertex, Text.numbers_to, Text.position_of}
-use Rattle.def_text.specs.{Text.face_set, Text.used_to, Types.Positions}
-use Rattle.qm_obj.proofs.{TailLemmas.at_back, TailLemmas.back_more, TailLemmas.passes_at}
-use Rattle.{std.proofs.Common.drop, std.proofs.Common.set, def_mesh.specs.Vertices.is_used, def_mesh.specs.Faces.Faces}
+use Rattle.def_text.specs.Text.{line_vertex, numbers_to, position_of, face_set, used_to}
+use Rattle.std.specs.{Prelude.IsTrue, List.Sorted.IsStrictlyIncreasing, List.list_all, List.list_any}
+use Rattle.def_text.{specs.Types.Positions, specs.FaceSet.FaceSet, specs.FaceSet.IsSoup}
+use Rattle.{qm_obj.proofs.TailLemmas.back_more, qm_obj.proofs.TailLemmas.at_back, def_mesh.specs.Vertices.is_used}
+use Rattle.{std.proofs.Common.ap, def_mesh.specs.Faces.Faces}
 
 -- Each of these numbers is below n.
 abbrev pub are_below : ℕ → List ℕ → Bool
@@ -25,14 +22,8 @@ length-numbers_to (suc n) = omega (arith, length_push (numbers_to n) (suc n), le
 
 pub numbers_at : (n k : ℕ) → k < n → get_or (numbers_to n) k 0 ≡ k + 1
 numbers_at zero k lt = absurd (omega arith)
-numbers_at (suc n) k lt = let long = length-numbers_to n in
-    grind (
-      arith,
-      cases_lt k n,
-      numbers_at n k,
-      get_or_append_left (numbers_to n) (suc n ∷ []) 0 k,
-      get_or_push (numbers_to n) (suc n) 0 k,
-    )
+numbers_at (suc n) k lt =
+    search (rules, length-numbers_to, cases_lt k n, numbers_at n k, get_or_append_left, get_or_push)
 
 pub numbers_rise : (n : ℕ) → IsStrictlyIncreasing (numbers_to n)
 numbers_rise n k l = search (rules, length-numbers_to, numbers_at)
@@ -58,31 +49,25 @@ rank_below faces n zero some le is = absurd (omega arith)
 rank_at : (faces : Faces) (n v : ℕ) → v < length (used_to faces n) → line_vertex faces (get_or (used_to faces n) v 0)
     ≡ v
 rank_at faces zero v lt = absurd (omega arith)
-rank_at faces (suc n) v lt = elim (cases_Bool (is_used faces (suc n))) [
-  | inr off ↦
-      let same : used_to faces (suc n) ≡ used_to faces n = used_more faces n ∙ rw off (append-nil (used_to faces n)) in
-      rw same (rank_at faces n v (rw same at lt))
-  | inl on ↦
-      let more : used_to faces (suc n) ≡ used_to faces n ++ suc n ∷ [] = used_more faces n ∙ rw on refl in
-      rw more (elim (cases_lt v (length (used_to faces n))) [
-        | inl below ↦ rw (get_or_append_left (used_to faces n) (suc n ∷ []) 0 v below) (rank_at faces n v below)
-        | inr at ↦ search (rules, length_push, get_or_push)
-      ])
-]
+rank_at faces (suc n) v lt =
+    let used = used_to faces n in
+    let before = get_or_append_left used (suc n ∷ []) 0 v in
+    let last = get_or_push used (suc n) 0 v in
+    let more = used_more faces n in
+    let long = length_push used (suc n) in
+    grind (arith, more, rank_at faces n v, append-nil used, cases_lt v (length used), before, last, long)
 
--- The renumbered corners are vertices.
-below_all : (faces : Faces) (n : ℕ) → list_all (are_numbers n) faces ≡ true
-    → list_all (are_below (length (used_to faces n))) (map (λ corners. map (line_vertex faces) corners) faces) ≡ true
-below_all faces n known =
-    let count = length (used_to faces n) in
-    list_all-map (are_below count) _ faces
-    ∙ list_all-from_AllPass (λ x. are_below count (map (line_vertex faces) x)) _ (λ f d l.
-    let face = get_or faces f d in
-    list_all-map (λ x. ltb x count) _ face ∙ list_all-from_AllPass _ face (λ j e m.
-    let corner = get_or face j e in
-    let parts = and_parts (ltb 0 corner) (leb corner n) (passes_at _ face j e (passes_at _ faces f d known l) m) in
-    let used = list_any_at _ faces f d l (list_any_at _ face j e m (eq-eqb _ _ refl)) in
-    lt-ltb _ _ (rank_below faces n _ (ltb-true 0 corner parts.0) (leb-true corner n parts.1) used)))
+-- The renumbered corners of some of the faces are vertices.
+below_all : (faces : Faces) (n : ℕ) (some : Faces) → ((k : ℕ) → is_used some k ≡ true → is_used faces k ≡ true)
+    → list_all (are_numbers n) some ≡ true
+    → list_all (are_below (length (used_to faces n))) (map (λ corners. map (line_vertex faces) corners) some) ≡ true
+below_all faces n [] among known = refl
+below_all faces n (f ∷ some) among known = grind (arith, nat_tests, along f, below_all faces n some)
+  where
+    along : (f : List ℕ) → ((k : ℕ) → list_any (λ c. eqb c k) f ≡ true → is_used faces k ≡ true)
+        → are_numbers n f ≡ true → are_below (length (used_to faces n)) (map (line_vertex faces) f) ≡ true
+    along [] among known = refl
+    along (k ∷ f) among known = grind (arith, nat_tests, rank_below faces n k, along f)
 
 -- A used number is used after renumbering.
 pub used_renumbered : (f : ℕ → ℕ) (m : ℕ) (faces : Faces) → is_used faces m ≡ true
@@ -97,16 +82,15 @@ used_renumbered f m (x ∷ xs) is = grind (arith, along x, used_renumbered f m x
 -- The used positions and the faces over them are a soup.
 pub face_set_is_soup : (positions : Positions) (faces : Faces)
     → IsTrue (list_all (are_numbers (length positions)) faces) → IsSoup (face_set positions faces)
-face_set_is_soup positions faces known = record {
-  in_range = rw (length-map (used_to faces (length positions)) (position_of positions)) (below_all faces _ known);
-  used = λ v l.
-      let lt : v < length (used_to faces (length positions)) =
-      rw (length-map (used_to faces (length positions)) (position_of positions)) at l in
-      let is = filter_passes (is_used faces) _ v 0 lt in
-      rw (rank_at _ _ v lt) at (used_renumbered (line_vertex faces) _ faces is);
-  named = sym (length-map (used_to faces (length positions)) (position_of positions));
-  increasing = search (rules, IsStrictlyIncreasing-filter, numbers_rise);
-}
+face_set_is_soup positions faces known =
+    let long = length-map (used_to faces (length positions)) (position_of positions) in
+    record {
+      in_range = rw long (below_all faces _ faces (λ k is. is) known);
+      used = λ v l. let lt = rw long at l in rw (rank_at _ _ v lt) at
+          (used_renumbered (line_vertex faces) _ faces (filter_passes (is_used faces) _ v 0 lt));
+      named = sym long;
+      increasing = search (rules, IsStrictlyIncreasing-filter, numbers_rise);
+    }
 
 -- Positive corners, none of which is late, are numbers of positions.
 pub none_late : (n : ℕ) (faces : Faces) (lines : List ℕ) → length lines ≡ length faces
@@ -123,12 +107,7 @@ none_late n (x ∷ xs) (line ∷ lines) size positive none = grind (arith, along
 
 -- A soup has at most as many positions as there are, and as many faces.
 pub few_pos : (positions : Positions) (faces : Faces) → length (face_set positions faces).pos ≤ length positions
-few_pos positions faces =
-    let used = used_to faces (length positions) in
-    let numbers = numbers_to (length positions) in
-    let kept = length-filter (is_used faces) numbers in
-    let few = count_by-le-length (is_used faces) numbers in
-    omega (arith, length-map used (position_of positions), kept, few, length-numbers_to (length positions))
+few_pos positions faces = search (rules, length-map, length-filter, count_by-le-length, length-numbers_to)
 
 pub same_faces : (positions : Positions) (faces : Faces) → length (face_set positions faces).faces ≡ length faces
 same_faces positions faces = length-map faces (λ corners. map (line_vertex faces) corners)
@@ -175,10 +154,9 @@ pub made_of : (positions : Positions) (faces : Faces) (marks : List Bool) (made 
     → IsCounted marks vertices → made.names ≡ chosen marks (length marks) → made.pos
     ≡ map (position_of positions) (chosen marks (length marks)) → made.faces
     ≡ map (λ corners. map (λ corner. get_or vertices (corner - 1) 0) corners) faces → made ≡ face_set positions faces
-made_of positions faces marks made vertices marked known counted names pos renumbered =
-    let count = length positions in
-    let all = ap (chosen marks) marked.size ∙ chosen_used faces count marks marked count (omega arith) in
-    let one : (k : ℕ) → (ltb 0 k && leb k count) ≡ true → get_or vertices (k - 1) 0 ≡ line_vertex faces k = λ k is.
-    let b = and_parts (ltb 0 k) _ is in let some = ltb-true 0 k b.0 in let le = leb-true k count b.1 in
-    counted.each (k - 1) (omega arith) ∙ ap length (chosen_used faces count marks marked (k - 1) (omega arith)) in
+made_of positions faces marks made vertices marked known counted names places renumbered =
+    let n = length positions in
+    let all = ap (chosen marks) marked.size ∙ chosen_used faces n marks marked n (omega arith) in
+    let one : (k : ℕ) → (ltb 0 k && leb k n) ≡ true → get_or vertices (k - 1) 0 ≡ line_vertex faces k = λ k is.
+    grind (arith, nat_tests, counted.each (k - 1), chosen_used faces n marks marked (k - 1)) in
     search (rules, same_images)

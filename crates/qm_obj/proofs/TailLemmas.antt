@@ -1,15 +1,14 @@
 -- Lists that a loop changes position by position.
-use Rattle.std.proofs.Common.{rules, ◌≡◌, ℕ, ◌+◌, ◌-◌, ◌<◌, ◌≤◌, Bool, true, List, [], ◌∷◌, ◌++◌, length, take, drop}
-use Rattle.std.proofs.Common.{set, map, get_or, refl, sym, ap, ◌∙◌, arith, cond, eqb, false, suc}
-use Rattle.std.proofs.lemmas.List.{drop-drop, drop-set-lt, drop-take, get_or-drop, length-drop, length-take, map_more}
-use Rattle.std.proofs.lemmas.List.{take_more_set, get_or_push, length-take-le, take-append-drop, append-nil}
-use Rattle.std.proofs.lemmas.List.{length-append, take_more, take_rest, take_at}
 use Rattle.std.proofs.lemmas.List.Sums.{AllPass-from_list_all, sum_by-append, sum_by-cons, list_all-from_AllPass}
-use Rattle.std.proofs.lemmas.Bool.{or_parts, both_ways, false_from_ne_true}
-use Rattle.def_io.specs.{Lines.line_of, Lines.lines_of, Lines.pieces, Lines.without_last, Bytes.Bytes, Bytes.Lines}
-use Rattle.std.proofs.{Math.Seq.take-add, lemmas.Grind.drop_more_same, lemmas.List.Folds.list_any_at}
-use Rattle.std.specs.{List.before_first, List.position_or_len, List.list_all, List.count_by, List.list_any}
-use Rattle.{std.proofs.lemmas.List.Folds.list_any_none, std.specs.Prelude.slice_range, def_feed.specs.Feed.is_line_feed}
+use Rattle.std.proofs.lemmas.List.{length-take-le, take-append-drop, append-nil, Folds.list_any_none, Folds.list_any_at}
+use Rattle.std.proofs.lemmas.List.{drop-set-lt, get_or-drop, length-drop, length-take, take_more_set, length-append}
+use Rattle.std.proofs.lemmas.List.{drop-drop, drop-take, map_more, get_or_push, take_more, take_rest, take_at}
+use Rattle.std.specs.List.{before_first, position_or_len, list_all, count_by, list_any}
+use Rattle.std.proofs.lemmas.{Grind.drop_more_same, Bool.false_from_ne_true, Bool.both_ways}
+use Rattle.std.proofs.Common.{rules, ◌≡◌, Bool, true, List, ◌++◌, length, take, drop, get_or, refl, arith, cond, false}
+use Rattle.std.proofs.Common.{ℕ, ◌+◌, ◌-◌, ◌<◌, ◌≤◌, [], ◌∷◌, set, map, sym, ap, ◌∙◌, eqb, suc}
+use Rattle.def_io.specs.{Lines.without_last, Lines.lines_of, Lines.line_of, Lines.pieces, Bytes.Bytes, Bytes.Lines}
+use Rattle.{std.specs.Prelude.slice_range, std.proofs.Math.Seq.take-add, def_feed.specs.Feed.is_line_feed}
 
 -- Lists that agree from k on have one element at k.
 pub at_back : {X : Type 0} (xs ys : List X) (k : ℕ) (d : X) → drop k xs ≡ drop k ys → get_or xs k d ≡ get_or ys k d
@@ -34,9 +33,7 @@ passes_at p xs i d all there = AllPass-from_list_all p xs all i d there
 -- What stands behind the prefix of a part of a list.
 pub range_drop : {X : Type 0} (xs : List X) (a k b : ℕ) → a + k ≤ b → drop k (slice_range xs a b)
     ≡ slice_range xs (a + k) b
-range_drop xs a k b le =
-    let e : b - a ≡ k + (b - (a + k)) = omega arith in
-    rw e (drop-take k (b - (a + k)) (drop a xs) ∙ ap (take (b - (a + k))) (drop-drop k a xs))
+range_drop xs a k b le = grind (arith, drop-take k (b - (a + k)) (drop a xs), drop-drop k a xs)
 
 -- How long a part of a list is.
 pub length-range : {X : Type 0} (xs : List X) (a b : ℕ) → a ≤ b → b ≤ length xs → length (slice_range xs a b) ≡ b - a
@@ -59,15 +56,9 @@ none_from_all p q to xs all = list_any_none q xs (λ k d l. to (get_or xs k d) (
 pub all_before : (p : ℕ → Bool) (xs : Bytes) → list_any p xs ≡ false → before_first p xs ≡ xs
 all_before p [] none = refl
 all_before p (x ∷ xs) none =
-    let parts = or_parts (p x) _ none in
-    let e : 1 + position_or_len p xs ≡ suc (position_or_len p xs) = omega arith in
-    rw (parts.0, e) (ap (λ ys. x ∷ ys) (all_before p xs parts.1))
+    let e : 1 + position_or_len p xs ≡ suc (position_or_len p xs) = omega arith in grind (arith, e, all_before p xs)
 
 -- Physical lines of a text whose last bytes are not ended.
-
--- What no element of a list passes, no element passes.
-none_at : (p : ℕ → Bool) (xs : Bytes) (i : ℕ) → list_any p xs ≡ false → i < length xs → p (get_or xs i 0) ≡ false
-none_at p xs i none there = false_from_ne_true _ (λ on. both_ways _ none (list_any_at p xs i 0 there on))
 
 -- A piece with its last byte taken off is at most one shorter.
 short_last : (byte : ℕ) (piece : Bytes) → length piece ≤ length (without_last byte piece) + 1
@@ -80,7 +71,7 @@ fed_last prefix = grind (arith, length-append prefix (10 ∷ []), get_or_push pr
 -- A byte that does not stand in a line is not taken off.
 pub same_last : (byte : ℕ) (line : Bytes) → list_any (λ b. eqb b byte) line ≡ false → without_last byte line ≡ line
 same_last byte [] none = grind arith
-same_last byte (b ∷ bs) none = search (rules, none_at)
+same_last byte (b ∷ bs) none = search (rules, false_from_ne_true, both_ways, list_any_at)
 
 -- The first piece of a text begins with its bytes before the first line feed.
 opens : (prefix more : Bytes) → list_any is_line_feed prefix ≡ false → 0 < length prefix
@@ -98,23 +89,12 @@ lines_fed prefix more none = ap (map line_of) (by_prefix prefix none)
     by_prefix : (prefix : Bytes) → list_any is_line_feed prefix ≡ false
         → pieces (prefix ++ 10 ∷ more) ≡ (prefix ++ 10 ∷ []) ∷ pieces more
     by_prefix [] none = refl
-    by_prefix (b ∷ bs) none = opens (b ∷ bs) (10 ∷ more) none (omega arith)
+    by_prefix (b ∷ bs) none = grind (arith, by_prefix bs)
 
--- The first line of a text with these bytes in front.
-pub record FirstLine (prefix all : Bytes) : Type 0 where
-  pub line : Bytes
-  pub rest : Lines
-  pub are : lines_of all ≡ line ∷ rest
-  pub long : length prefix ≤ length line + 1
-
+-- The first line of a text with these bytes in front, and the lines behind it.
 pub first_line : (prefix more : Bytes) → list_any is_line_feed prefix ≡ false → 0 < length prefix
-    → FirstLine prefix (prefix ++ more)
-first_line prefix more none some = record {
-  line = line_of (prefix ++ get_or (pieces more) 0 []);
-  rest = map line_of (drop 1 (pieces more));
-  are = ap (map line_of) (opens prefix more none some);
-  long = search (rules, kept);
-}
+    → (line : Bytes) × (rest : Lines) × (lines_of (prefix ++ more) ≡ line ∷ rest) × (length prefix ≤ length line + 1)
+first_line prefix more none some = (_, _, ap (map line_of) (opens prefix more none some), search (rules, kept))
   where
     kept : (behind : Bytes) → length prefix ≤ length (without_last 10 (prefix ++ behind))
     kept [] = rw (append-nil prefix, same_last 10 prefix none) (omega arith)

@@ -1,16 +1,20 @@
 -- The words of a line, one after another.
-use Rattle.std.proofs.Common.{rules, Bool, List, None, Some, arith, cond, drop, false, get_or, length, refl, take, []}
-use Rattle.std.proofs.Common.{ap, eqb, inl, inr, map, not, set, suc, sym, true, ℕ, ◌+◌, ◌<◌, ◌∙◌, ◌∷◌, ◌≡◌, ◌≤◌}
-use Rattle.def_text.specs.Reading.{face_reading, is_letter, vertex_reading, words_reading}
-use Rattle.def_text.specs.{Logical.is_hash, Types.Words, Words.ends_word, declared.reading.Reading.TheVariants.Passed}
-use Rattle.qm_obj.specs.{Indices.with_clamped, Lines.IsFilled, Lines.IsReadTo, Lines.uncommented, Lines.with_word}
-use Rattle.std.proofs.lemmas.Bool.{cases_Bool, or_left, or_right, true≢false}
-use Rattle.std.proofs.lemmas.List.{Folds.list_all_at, Folds.list_all_more, drop_more, get_or-map, get_or-take}
-use Rattle.std.proofs.lemmas.List.{length-drop, length-map, length-take-le}
-use Rattle.std.specs.{List.before_first, List.list_all, List.list_any, List.position_or_len}
-use Rattle.{def_io.specs.Lines.byte_in_front, std.proofs.lemmas.List.same_lists, std.proofs.lemmas.List.take_all}
-use Rattle.{def_text.specs.Words.is_blank, def_text.specs.Words.words, qm_obj.specs.Lines.is_end}
-use Rattle.qm_obj.proofs.TailLemmas.{all_before}
+use Rattle.def_text.specs.declared.refusal.ObjFail.TheVariants.{NotQuad, Range, Syntax}
+use Rattle.def_text.specs.declared.reading.Reading.TheVariants.{Passed, Face, Position, Refused}
+use Rattle.std.proofs.lemmas.List.{get_or-take, length-drop, length-take-le, Folds.list_all_more, Folds.list_all_at}
+use Rattle.std.proofs.lemmas.List.{drop_more, get_or-map, length-map, same_lists, take_all}
+use Rattle.std.proofs.lemmas.Bool.{cases_Bool, or_left, or_right, true≢false, Decides.nat_tests}
+use Rattle.std.specs.List.{position_or_len, before_first, list_all, list_any}
+use Rattle.std.proofs.Common.{rules, Bool, List, None, Some, arith, cond, drop, false, get_or, length, refl, take, true}
+use Rattle.std.proofs.Common.{[], ap, eqb, inl, inr, map, set, suc, sym, ◌+◌, ◌<◌, ◌∙◌, ◌∷◌, ◌≡◌, ◌≤◌, ◌^◌, ℕ}
+use Rattle.qm_obj.specs.Lines.{uncommented, with_word, IsFilled, IsReadTo, is_end}
+use Rattle.def_text.specs.Reading.{face_reading, is_letter, vertex_reading, words_reading, is_position_count}
+use Rattle.def_text.specs.Corner.{is_corner_word, used_index, is_out, resolved}
+use Rattle.qm_obj.specs.{declared.position.Coordinate.Coordinate, Positions.coordinate, Indices.with_clamped}
+use Rattle.qm_obj.specs.{Positions.all_near, Indices.corner_of, Indices.clamped}
+use Rattle.def_text.specs.{Words.ends_word, Words.is_blank, Logical.is_hash, Decimal.is_decimal, Decimal.rounded}
+use Rattle.def_text.specs.{Words.words, Types.Words, Text.faces, Decimal.is_far}
+use Rattle.{std.specs.Option.option_map_or, qm_obj.proofs.TailLemmas.all_before, def_io.specs.Lines.byte_in_front}
 
 -- A text that begins with no blank has its prefix up to the first blank as its first word.
 pub words_word : (b : ℕ) (bs : List ℕ) → is_blank b ≡ false → words (b ∷ bs)
@@ -18,10 +22,7 @@ pub words_word : (b : ℕ) (bs : List ℕ) → is_blank b ≡ false → words (b
 words_word b [] off = rw off refl
 words_word b (c ∷ cs) off =
     let e : 1 + position_or_len is_blank cs ≡ suc (position_or_len is_blank cs) = omega arith in
-    rw off (elim (cases_Bool (is_blank c)) [
-      | inl on ↦ rw on (rw on refl)
-      | inr after ↦ rw (words_word c cs after) (rw after (rw e refl))
-    ])
+    grind (arith, e, words_word c cs)
 
 -- A line that goes on with a word has its bytes up to the first end as that word, and its comment is cut behind it.
 word_ahead : (b : ℕ) (bs : List ℕ) → is_blank b ≡ false → words (b ∷ uncommented bs)
@@ -53,12 +54,9 @@ uncommented_short (b ∷ bs) = grind (arith, uncommented_short bs)
 
 pub uncommented_is : (line : List ℕ) → uncommented line ≡ before_first is_hash line
 uncommented_is [] = refl
-uncommented_is (b ∷ bs) = by_hash (is_hash b) (uncommented_is bs)
-  where
-    by_hash : (t : Bool) → uncommented bs ≡ before_first is_hash bs → cond t [] (b ∷ uncommented bs)
-        ≡ take (cond (not t) (1 + position_or_len is_hash bs) 0) (b ∷ bs)
-    by_hash true again = refl
-    by_hash false again = search rules
+uncommented_is (b ∷ bs) =
+    let e : 1 + position_or_len is_hash bs ≡ suc (position_or_len is_hash bs) = omega arith in
+    grind (arith, e, uncommented_is bs)
 
 pub uncommented_none : (line : List ℕ) → list_any is_hash line ≡ false → uncommented line ≡ line
 uncommented_none line none = uncommented_is line ∙ all_before is_hash line none
@@ -75,28 +73,11 @@ words_few (b ∷ bs) =
 pub words_short : (line : List ℕ) → length (words (uncommented line)) ≤ length line
 words_short line = omega (arith, words_few (uncommented line), uncommented_short line)
 
--- Where the next word is one, it is the word at this position.
-pub record IsNext (all : Words) (count : ℕ) (word : List ℕ) (after : Words) : Type 0 where
-  pub there : count < length all
-  pub here : get_or all count [] ≡ word
-  pub behind : after ≡ drop (count + 1) all
-
 -- The slots have what the first words say.
 pub filled_all : {X : Type 0} (says : List ℕ → X) (all : Words) (count size : ℕ) (slots : List X) → size ≤ count
     → size ≤ length all → IsFilled says all count size slots → slots ≡ map says (take size all)
-filled_all {X} says all count size slots read fits filled =
-    let long = length-take-le size all fits in
-    same_lists slots (map says (take size all)) (filled.many ∙ sym long ∙ sym (length-map (take size all) says))
-    (λ k d l. let there : k < size = omega arith in
-    filled.each k d (omega arith) there ∙ sym (get_or-map says (take size all) k [] d (omega arith)
-    ∙ ap says (get_or-take size all k [] there)))
-
--- All words are read, each passes the test, and the slots have what the first ones say.
-pub record AreRead {X : Type 0} (test : List ℕ → Bool) (says : List ℕ → X) (all : Words) (size count : ℕ)
-    (slots : List X) : Type 0 where
-  pub many : length all ≡ count
-  pub passed : list_all test all ≡ true
-  pub filled : size ≤ count → slots ≡ map says (take size all)
+filled_all says all count size slots read fits filled =
+    search (rules, same_lists, length-take-le, length-map, get_or-map, get_or-take)
 
 -- What a test gives, where it gives something, and where it gives nothing.
 pub some_from : {X : Type 0} (t : Bool) (x y : X) → cond t (Some x) None ≡ Some y → (t ≡ true) × (y ≡ x)
@@ -108,46 +89,78 @@ pub fewer_left : (word : List ℕ) (after : Words) {rest : Words} {none : Bool} 
 fewer_left [] after first is some = absurd (true≢false (sym is ∙ some))
 fewer_left (b ∷ bs) after first is some = omega (arith, ap length first)
 
+-- Where the next word is one, it is the word at this position.
+next_read : {X : Type 0} {test : List ℕ → Bool} {says : List ℕ → X} {all : Words} {size count : ℕ} {rest : Words}
+    {slots : List X} → IsReadTo test says all size count rest slots → (word : List ℕ) {after : Words} {none : Bool}
+    → rest ≡ with_word word after → none ≡ eqb (length word) 0 → none ≡ false
+    → (count < length all) × (get_or all count [] ≡ word) × (after ≡ drop (count + 1) all)
+next_read read [] first is some = absurd (true≢false (sym is ∙ some))
+next_read {all = all} {count = count} read (b ∷ bs) {after} first is some =
+    let behind : drop count all ≡ (b ∷ bs) ∷ after = sym read.rest_is ∙ first in
+    let there : count < length all = omega (arith, ap length behind, length-drop count all) in
+    let parts : get_or all count [] ∷ drop (count + 1) all ≡ (b ∷ bs) ∷ after =
+    sym (drop_more all count [] there) ∙ behind in
+    (there, cc parts, cc parts)
+
 module _ {X : Type 0} {test : List ℕ → Bool} {says : List ℕ → X} {all : Words} {size count : ℕ} {rest : Words}
-    {slots : List X} (read : IsReadTo test says all size count rest slots) where
-  -- The next word is there.
-  pub next_read : {word : List ℕ} {after : Words} {none : Bool} → rest ≡ with_word word after
-      → none ≡ eqb (length word) 0 → none ≡ false → IsNext all count word after
-  next_read {word = []} first is some = absurd (true≢false (sym is ∙ some))
-  next_read {word = b ∷ bs} {after = after} first is some =
-      let behind : drop count all ≡ (b ∷ bs) ∷ after = sym read.rest_is ∙ first in
-      let there : count < length all = omega (arith, ap length behind, length-drop count all) in
-      let parts : get_or all count [] ∷ drop (count + 1) all ≡ (b ∷ bs) ∷ after =
-      sym (drop_more all count [] there) ∙ behind in
-      record { there = there; here = cc parts; behind = cc parts }
-
-  -- It passes the test, and what it says is put into its slot.
-  pub read_more : {word : List ℕ} {after : Words} {x : X} → IsNext all count word after
-      → cond (test word) (Some (says word)) None ≡ Some x
+    {slots : List X} (read : IsReadTo test says all size count rest slots) (word : List ℕ) (after : Words) {none : Bool}
+    (first : rest ≡ with_word word after) (is : none ≡ eqb (length word) 0) where
+  -- The next word passes the test, and what it says is put into its slot; or it does not pass.
+  pub read_more : {x : X} → none ≡ false → cond (test word) (Some (says word)) None ≡ Some x
       → IsReadTo test says all size (count + 1) after (set slots count x)
-  read_more {word} {x = x} next is = search (rules, list_all_more)
+  read_more {x} some says_x =
+      let next = next_read read word first is some in search (rules, list_all_more)
 
-  -- It does not pass it.
-  pub read_bad : {word : List ℕ} {after : Words} → IsNext all count word after
-      → cond (test word) (Some (says word)) None ≡ None → list_all test all ≡ false
-  read_bad {word} next is = search (rules, list_all_at)
+  pub read_bad : none ≡ false → cond (test word) (Some (says word)) None ≡ None → list_all test all ≡ false
+  read_bad some says_none =
+      let next = next_read read word first is some in search (rules, list_all_at)
 
-  -- No word is left, so all are read.
-  pub all_read : (word : List ℕ) (after : Words) {none : Bool} → rest ≡ with_word word after
-      → none ≡ eqb (length word) 0 → none ≡ true → AreRead test says all size count slots
-  all_read (b ∷ bs) after first is empty = search rules
-  all_read [] after first is empty =
-      let past : length all ≤ count = omega (arith, ap length (sym read.rest_is ∙ first), length-drop count all) in
-      record {
-        many = omega arith;
-        passed = ap (list_all test) (sym (take_all count all past)) ∙ read.passed;
-        filled = λ fits. filled_all says all count size slots fits (omega arith) read.filled;
-      }
+  -- No word is left, so all are read, each passes the test, and the slots have what the first ones say.
+  all_read : none ≡ true → (length all ≡ count) × (list_all test all ≡ true)
+      × (size ≤ count → slots ≡ map says (take size all))
+  all_read empty =
+      let past : length all ≤ count = grind (arith, length-drop count all) in search (rules, take_all, filled_all)
 
 -- What the first word and the words behind it say.
 pub by_first_word : (line vertices faces : ℕ) (all rest : Words) (first : List ℕ) → all ≡ with_word first rest
     → with_clamped (words_reading line vertices faces all)
     ≡ cond (is_letter 118 first) (vertex_reading line vertices rest)
     (cond (is_letter 102 first) (with_clamped (face_reading line vertices faces rest)) Passed)
-by_first_word line vertices faces all rest [] is = ap (λ ws. with_clamped (words_reading line vertices faces ws)) is
-by_first_word line vertices faces all rest (b ∷ bs) is = grind arith
+by_first_word line vertices faces all rest first is = grind arith
+
+-- What `v` lines and `f` lines say whose words are all read, or of which one is no decimal or no corner.
+
+all_coordinates : (ws : Words) → all_near (map coordinate ws) ≡ cond (list_any (λ w. is_far (rounded w)) ws) None
+    (Some (map rounded ws))
+all_coordinates [] = refl
+all_coordinates (w ∷ ws) = grind (arith, all_coordinates ws)
+
+pub vertex_read : {ws rest : Words} {count : ℕ} {slots : List Coordinate} (line vertices : ℕ) → vertices < 2 ^ 21
+    → IsReadTo is_decimal coordinate ws 3 count rest slots → (word : List ℕ) (after : Words) {none : Bool}
+    → rest ≡ with_word word after → none ≡ eqb (length word) 0 → none ≡ true
+    → vertex_reading line vertices ws ≡ cond (is_position_count count)
+    (option_map_or Position (all_near slots) (Refused (Range line))) (Refused (Syntax line))
+vertex_read {ws} {rest} {count} {slots} line vertices few so_far word after first is none =
+    let read = all_read so_far word after first is none in
+    grind (arith, nat_tests, all_coordinates (take 3 ws))
+
+-- A corner that is out is kept as 0, and no other.
+any_out : (vertices : ℕ) (ws : Words) → list_any (λ corner. eqb corner 0) (map (corner_of vertices) ws)
+    ≡ list_any (λ w. is_out vertices (used_index w)) ws
+any_out vertices [] = refl
+any_out vertices (w ∷ ws) = grind (arith, nat_tests, any_out vertices ws)
+
+all_in : (vertices : ℕ) (ws : Words) → list_any (λ w. is_out vertices (used_index w)) ws ≡ false
+    → map (corner_of vertices) ws ≡ map clamped (map (λ w. resolved vertices (used_index w)) ws)
+all_in vertices [] inside = refl
+all_in vertices (w ∷ ws) inside = grind (arith, nat_tests, all_in vertices ws)
+
+pub face_read : {ws rest : Words} {count : ℕ} {corners : List ℕ} (line vertices faces : ℕ) → faces < 2 ^ 20
+    → IsReadTo is_corner_word (corner_of vertices) ws 4 count rest corners → (word : List ℕ) (after : Words)
+    {none : Bool} → rest ≡ with_word word after → none ≡ eqb (length word) 0 → none ≡ true
+    → with_clamped (face_reading line vertices faces ws) ≡ cond (eqb count 4)
+    (cond (list_any (λ corner. eqb corner 0) corners) (Refused (Range line)) (Face line corners))
+    (Refused (NotQuad line count))
+face_read {ws} {rest} {count} {corners} line vertices faces few so_far word after first is none =
+    let read = all_read so_far word after first is none in
+    grind (arith, nat_tests, any_out vertices ws, all_in vertices ws, take_all 4 ws)

@@ -1,10 +1,12 @@
-use Rattle.std.proofs.Common.{rules}
-use Rattle.qm_obj.proofs.FeedLemmas.{is_nothing, is_something, last_refused, last_same, nothing_joined, sound_of}
-use Rattle.{error_laws.proofs.Errors.handed, qm_obj.specs.Views.kept_of, std.proofs.Common.[], std.proofs.Common.◌∙◌}
+use Rattle.qm_obj.proofs.FeedLemmas.{is_nothing, is_something, last_refused, last_same, sound_of}
+use Rattle.std.proofs.{lemmas.List.append-nil, Common.rules, Common.◌∙◌, Common.[], Common.ap}
+use Rattle.{error_laws.proofs.Errors.handed, def_text.specs.Text.soup_of, def_feed.specs.Kept.kept_readings}
+use Rattle.{qm_obj.specs.Views.kept_of}
 use Rattle.qm_obj.proofs.joiner.Joiner.read_rest.Goals as goal
 
 pub returns-then-is_empty-clause-same : goal.returns-then-is_empty-clause-same
-returns-then-is_empty-clause-same c = nothing_joined (kept_of c.args.self.now []) (search (rules, is_nothing))
+returns-then-is_empty-clause-same c = rw (is_nothing c.if-is_empty.ensures
+    c.args.self.now.joined.ok.0) (ap soup_of (append-nil (kept_readings (kept_of c.args.self.now []))))
 
 pub returns-in_err-take-clause-refused : goal.returns-in_err-take-clause-refused
 returns-in_err-take-clause-refused c =

@@ -1,6 +1,6 @@
-use Rattle.qm_obj.proofs.FeedLemmas.{both_taken, refused_as, refused_before, refused_behind}
+use Rattle.qm_obj.proofs.FeedLemmas.{both_taken, refused_before, refused_behind, takes_behind}
 use Rattle.qm_obj.{proofs.TailLemmas.prefix_fed, proofs.TailLemmas.prefix_rest, specs.Views.kept_at}
-use Rattle.std.proofs.lemmas.{List.length-drop, List.length-take, List.take-append-drop, Result.on_ok_weaker}
+use Rattle.std.proofs.lemmas.{List.length-drop, List.length-take, List.take-append-drop}
 use Rattle.std.proofs.{Common.arith, Common.drop, Common.length, Common.take, Common.◌+◌, Common.◌-◌}
 use Rattle.{error_laws.proofs.Errors.handed}
 use Rattle.qm_obj.proofs.progress.Progress.take.Goals as goal
@@ -26,10 +26,6 @@ returns-in_err-end_line-clause-refused c =
     (rw (prefix_fed piece c.loop-end.at c.in-Some.end found.more found.within found.feed)
     (refused_behind _ _ c.loop-end.invariant.took (c.in_err-end_line.ensures.refused other)))))
 
-pub returns-clause-took : goal.returns-clause-took
-returns-clause-took c = on_ok_weaker c.keep.result (λ took. rw (← prefix_rest c.args.piece.now c.loop-end.at)
-    (both_taken c.loop-end.invariant.took took)) c.keep.ensures.took
-
-pub returns-clause-refused : goal.returns-clause-refused
-returns-clause-refused c = rw (← prefix_rest c.args.piece.now c.loop-end.at) (refused_as _ c.keep.ensures.refused
-    (λ fail stops. refused_behind _ _ c.loop-end.invariant.took stops))
+pub returns : goal.returns
+returns c = rw (← prefix_rest c.args.piece.now c.loop-end.at) (takes_behind _ _ c.keep.result c.loop-end.invariant.took
+    c.keep.ensures.took c.keep.ensures.refused)
