@@ -1,8 +1,6 @@
-mod Fits
 mod Level
-mod Parses
 mod Plain
-mod Sound
 mod Unique
 mod Uses
+mod Walks
 mod Words

@@ -1,15 +1,14 @@
 -- Uses counted, and the rows that clap keeps of them.
-use Rattle.std.proofs.Common.{List, None, Option, Some, append-nil, arith, cond, false, inl, inr, map, refl, true, ◌++◌}
-use Rattle.std.proofs.Common.{[], ap, sym, ℕ, ◌+◌, ◌∙◌, ◌∷◌, ◌≡◌, ◌≤◌}
-use Rattle.std.proofs.lemmas.Bool.{and_parts, cases_Bool, false_from_ne_true, false≢true, or_parts, true≢false}
-use Rattle.std.proofs.{lemmas.List.Folds.list_all-append, lemmas.List.map-append, lemmas.Slice.Eq.bytes_eq-Decides}
+use Rattle.std.proofs.lemmas.{Slice.Eq.bytes_eq-Decides, List.Folds.list_all-append, Bool.false_from_ne_true}
+use Rattle.std.proofs.Common.{List, None, Option, Some, append-nil, arith, cond, false, map, refl, true, ◌++◌, sym, ◌+◌}
+use Rattle.qm_words.proofs.Words.{by_id, full_rule, rules, Pending, settle, with_hyphens, same_name}
 use Rattle.clap.specs.Walk.{Row, at_row, first_of, has_row, more_values, settled_rows, used}
-use Rattle.clap.specs.{Faults.use_fault, Takes.is_given, declared.builder.value_parser.Reading.TheVariants.AsWritten}
-use Rattle.clap.specs.{declared.parser.matches.ValueSource.TheVariants.CommandLine}
-use Rattle.def_run.specs.Options.{Use, Uses, count_of, value_of}
-use Rattle.qm_words.proofs.Words.{by_id, full_rule, rules, Pending, settle, with_hyphens}
-use Rattle.def_text.specs.Types.{Word, Words}
-use Rattle.{std.specs.List.list_all, std.specs.Str.bytes_eq, qm_words.specs.Parsing.is_known}
+use Rattle.std.proofs.{lemmas.List.map-append, lemmas.Bool.false≢true, Common.◌∙◌, Common.◌∷◌, Common.◌≡◌, Common.◌≤◌}
+use Rattle.def_run.specs.{Options.count_of, Options.value_of, Options.Uses, Options.Use}
+use Rattle.clap.specs.{declared.parser.matches.ValueSource.TheVariants.CommandLine, Takes.is_given, Faults.use_fault}
+use Rattle.std.{specs.List.list_all, specs.Str.bytes_eq, proofs.Common.[], proofs.Common.ap, proofs.Common.ℕ}
+use Rattle.{qm_words.specs.Parsing.is_known, clap.specs.declared.builder.value_parser.Reading.TheVariants.AsWritten}
+use Rattle.{def_text.specs.Types.Words, def_text.specs.Types.Word}
 
 -- The row of a use without hyphens.
 abbrev pub row_of : (one : Use) → Row
@@ -24,15 +23,10 @@ abbrev pub count : (name : Word) (uses : Uses) → ℕ
 count name [] = 0
 count name (one ∷ uses) = cond (bytes_eq one.name name) 1 0 + count name uses
 
-pub same_name : (name : Word) → bytes_eq name name ≡ true
-same_name name = (bytes_eq-Decides name name).1 refl
-
 pub either_way : (a b : Word) → bytes_eq a b ≡ bytes_eq b a
-either_way a b = elim (cases_Bool (bytes_eq a b)) [
-  | inl is ↦ is ∙ sym ((bytes_eq-Decides b a).1 (sym ((bytes_eq-Decides a b).0 is)))
-  | inr other ↦ other ∙ sym (false_from_ne_true _ (λ is.
-      true≢false (sym ((bytes_eq-Decides a b).1 (sym ((bytes_eq-Decides b a).0 is))) ∙ other)))
-]
+either_way a b =
+    let one = bytes_eq-Decides a b in
+    let two = bytes_eq-Decides b a in grind (arith, one.0, one.1, two.0, two.1)
 
 -- Hyphens change no count.
 pub count_hyphens : (name : Word) (uses : Uses) → count_of name (map with_hyphens uses) ≡ count name uses
@@ -46,48 +40,32 @@ count_append name (one ∷ uses) more = omega (arith, count_append name uses mor
 -- No row of a name is no use of it.
 pub fresh_count : (name : Word) (uses : Uses) → has_row name (rows_of uses) ≡ false → count name uses ≡ 0
 fresh_count name [] none = refl
-fresh_count name (one ∷ uses) none =
-    let parts = or_parts (bytes_eq one.name name) _ none in
-    rw parts.0 (omega (arith, fresh_count name uses parts.1))
+fresh_count name (one ∷ uses) none = grind (arith, fresh_count name uses)
 
 pub count_fresh : (name : Word) (uses : Uses) → count name uses ≡ 0 → has_row name (rows_of uses) ≡ false
 count_fresh name [] none = refl
-count_fresh name (one ∷ uses) none = elim (cases_Bool (bytes_eq one.name name)) [
-  | inl is ↦ absurd (omega (arith, rw is at none))
-  | inr other ↦ rw other (count_fresh name uses (omega (arith, rw other at none)))
-]
+count_fresh name (one ∷ uses) none = grind (arith, count_fresh name uses)
 
 -- A row of a name that was given is a use of it.
 pub given_count : (name : Word) (uses : Uses) → is_given name (rows_of uses) ≡ true → 1 ≤ count name uses
 given_count name [] given = absurd (false≢true given)
-given_count name (one ∷ uses) given = elim (cases_Bool (bytes_eq one.name name)) [
-  | inl is ↦ rw is (omega arith)
-  | inr other ↦ rw other (omega (arith, given_count name uses (rw other at given)))
-]
+given_count name (one ∷ uses) given = grind (arith, given_count name uses)
 
 pub count_given : (name : Word) (uses : Uses) → 1 ≤ count name uses → is_given name (rows_of uses) ≡ true
 count_given name [] some = absurd (omega arith)
-count_given name (one ∷ uses) some = elim (cases_Bool (bytes_eq one.name name)) [
-  | inl is ↦ rw is refl
-  | inr other ↦ rw other (count_given name uses (omega (arith, rw other at some)))
-]
+count_given name (one ∷ uses) some = grind (arith, count_given name uses)
 
 -- The first row of a name has the value of its first use.
 pub first_value_of : (name : Word) (uses : Uses) → 1 ≤ count name uses → first_of name (rows_of uses)
     ≡ Some (value_of name (map with_hyphens uses))
 first_value_of name [] some = absurd (omega arith)
-first_value_of name (one ∷ uses) some = elim (cases_Bool (bytes_eq one.name name)) [
-  | inl is ↦ rw is refl
-  | inr other ↦ rw other (first_value_of name uses (omega (arith, rw other at some)))
-]
+first_value_of name (one ∷ uses) some = grind (arith, first_value_of name uses)
 
 -- A row that is not there is put at the end.
 at_row_fresh : (id : Word) (change : Row → List Row) (missing rows : List Row) → has_row id rows ≡ false
     → at_row id change missing rows ≡ rows ++ missing
 at_row_fresh id change missing [] none = refl
-at_row_fresh id change missing (r ∷ rows) none =
-    let parts = or_parts (bytes_eq r.id id) _ none in
-    rw parts.0 (ap (λ (rs : List Row). r ∷ rs) (at_row_fresh id change missing rows parts.1))
+at_row_fresh id change missing (r ∷ rows) none = grind (arith, at_row_fresh id change missing rows)
 
 pub used_fresh : (one : Use) (uses : Uses) → has_row one.name (rows_of uses) ≡ false
     → used (full_rule one.name) (one.value ∷ []) (rows_of uses) ≡ rows_of (uses ++ one ∷ [])
@@ -112,34 +90,22 @@ pub record Good (names : Words) (uses : Uses) : Type 0 where
 pub good_more : (names : Words) (uses : Uses) (one : Use) → Good names uses → is_known names one.name ≡ true
     → count one.name uses ≡ 0 → Good names (uses ++ one ∷ [])
 good_more names uses one good known none = record {
-  once = λ name. elim (cases_Bool (bytes_eq one.name name)) [
-    | inl is ↦
-        let zero_of : count name uses ≡ 0 = rw (← (bytes_eq-Decides one.name name).0 is) none in
-        let one_of : count name (one ∷ []) ≡ 1 = rw is refl in
-        omega (arith, count_append name uses (one ∷ []))
-    | inr other ↦
-        let none_of : count name (one ∷ []) ≡ 0 = rw other refl in
-        omega (arith, count_append name uses (one ∷ []), good.once name)
-  ];
+  once = λ name. grind
+      (arith, (bytes_eq-Decides one.name name).0, count_append name uses (one ∷ []), good.once name);
   known = list_all-append (λ (u : Use). is_known names u.name) uses (one ∷ []) ∙ rw (good.known, known) refl;
 }
 
-pub good_prefix : (names : Words) (uses more : Uses) → Good names (uses ++ more) → Good names uses
-good_prefix names uses more good = record {
-  once = λ name. omega (arith, count_append name uses more, good.once name);
-  known = (and_parts _ _ (sym (list_all-append (λ (u : Use). is_known names u.name) uses more) ∙ good.known)).0;
-}
-
-pub good_back : (names : Words) (uses more : Uses) → Good names (uses ++ more)
-    → list_all (λ (one : Use). is_known names one.name) more ≡ true
-good_back names uses more good = (and_parts (list_all (λ (u : Use). is_known names u.name) uses) _
-    (sym (list_all-append (λ (u : Use). is_known names u.name) uses more) ∙ good.known)).1
+pub good_parts : (names : Words) (uses more : Uses) → Good names (uses ++ more)
+    → Good names uses × (list_all (λ (one : Use). is_known names one.name) more ≡ true)
+good_parts names uses more good =
+    let all = list_all-append (λ (u : Use). is_known names u.name) uses more in
+    let few = λ (name : Word). count_append name uses more in
+    (record { once = λ name. omega (arith, few name, good.once name); known = grind arith }, grind arith)
 
 -- The last of such uses is the first of its name.
 pub last_fresh : (names : Words) (uses : Uses) (one : Use) → Good names (uses ++ one ∷ []) → count one.name uses ≡ 0
 last_fresh names uses one good =
-    let one_of : count one.name (one ∷ []) ≡ 1 = rw (same_name one.name) refl in
-    omega (arith, count_append one.name uses (one ∷ []), good.once one.name)
+    grind (arith, same_name one.name, count_append one.name uses (one ∷ []), good.once one.name)
 
 -- The uses with the one that is pending, and how clap keeps that.
 abbrev pub all_of : (uses : Uses) (last : Option Use) → Uses
@@ -161,8 +127,7 @@ pub settled : (names : Words) (uses : Uses) (last : Option Use) → Good names u
 settled names uses None good known quiet = (good, refl)
 settled names uses (Some one) good known quiet =
     let rule = by_id names one.name known in
-    let none : has_row one.name (rows_of uses) ≡ false =
-    fresh_from one.name one.value (rows_of uses) (rw rule at quiet) in
+    let none : has_row one.name (rows_of uses) ≡ false = grind arith in
     (good_more names uses one good known (fresh_count one.name uses none), rw rule (used_fresh one uses none))
 
 -- It has none where it is the first of its name.

@@ -1,11 +1,10 @@
 use Rattle.std.proofs.{Common.map, Common.string_bytes, Common.sym, Common.◌∙◌, lemmas.Bool.true≢false}
-use Rattle.qm_words.proofs.Level.{line_no_end}
-use Rattle.qm_words.proofs.Parses.{app_all, app_more, refused, texts, took}
+use Rattle.qm_words.proofs.Level.{app_all, app_more, line_taken, refused, texts, took}
 use Rattle.qm_words.proofs.options.read_options.Goals as goal
 
 pub returns-then-has_end-clause-refuses : goal.returns-then-has_end-clause-refuses
 returns-then-has_end-clause-refuses c usage uses line plain =
-    true≢false (c.if-has_end.ensures ∙ line_no_end _ _ uses c.requires line plain)
+    true≢false (c.if-has_end.ensures ∙ (line_taken _ _ uses c.requires line plain).0)
 
 pub loop-name-preserved : goal.loop-name-preserved
 loop-name-preserved c = app_more c.args.names.now c.loop-name.name-index _ _ _ c.loop-name-test.true

@@ -1,7 +1,9 @@
-use Rattle.{error_laws.proofs.Errors.handed, qm_words.proofs.Plain.no_cut, std.proofs.Common.string_bytes}
-use Rattle.{std.proofs.Common.map}
+use Rattle.std.proofs.Common.{refl}
+use Rattle.qm_words.proofs.Plain.{no_line, keep_plain, patches_plain}
+use Rattle.error_laws.proofs.Errors.{handed}
 use Rattle.qm_words.proofs.values.cut_of.Goals as goal
 
 pub returns-in_err-matches-clause-refuses : goal.returns-in_err-matches-clause-refuses
-returns-in_err-matches-clause-refuses c = handed _ _ c.in_err-matches.field-0.0 c.from_residual.ensures.1 (λ usage keep
-    patches has. no_cut (map string_bytes c.args.words.now) keep patches (c.in_err-matches.ensures.refuses usage) has)
+returns-in_err-matches-clause-refuses c = handed _ _ c.in_err-matches.field-0.0 c.from_residual.ensures.1
+    (λ usage keep patches has. no_line (c.in_err-matches.ensures.refuses usage) has.options
+    (rw (has.kept, has.cut, keep_plain keep, patches_plain patches) refl))
