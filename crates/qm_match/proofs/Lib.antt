@@ -1,6 +1,4 @@
 mod Chains
-mod Taken
-mod Stepped
-mod Ready
 mod Raised
+mod Stepped
 pub mod Outcomes

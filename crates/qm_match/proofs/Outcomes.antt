@@ -1,19 +1,24 @@
 -- The cost of a matching, one edge at a time.
-use Rattle.std.proofs.Common.{rules, ◌≡◌, ℕ, ◌+◌, ◌-◌, ◌<◌, ◌≤◌, List, [], ◌∷◌, length, take, ◌+ℤ◌, refl, arith, ◌++◌}
-use Rattle.std.proofs.Common.{map, get_or, sym, ◌∙◌, ap, subst, zero, suc, ◌*◌, ◌/◌, ◌^◌, None, ℤ, pos, ◌*ℤ◌, ◌≤ℤ◌, inl}
-use Rattle.std.proofs.Common.{inr}
-use Rattle.std.proofs.{lemmas.Int.ints, lemmas.List.map-append, lemmas.List.take_more, lemmas.List.get_or_past}
-use Rattle.std.proofs.{Math.Nat.mul-le-mul_left, Math.Nat.mul-le-mul_right}
-use Rattle.def_math.specs.{Increasing.IsIncreasing, Sums.total, Counts.count}
-use Rattle.qm_dual.proofs.{Tallies.total_take, Verdicts.says_yes}
+use Rattle.std.proofs.Common.{rules, ◌≡◌, ℕ, ◌+◌, ◌-◌, ◌<◌, ◌≤◌, List, [], ◌∷◌, length, take, ◌+ℤ◌, refl, arith, map}
+use Rattle.std.proofs.Common.{get_or, sym, ◌∙◌, ap, zero, suc, ◌*◌, ◌/◌, ◌^◌, None, ℤ, pos, inl, inr, Option, Bool}
+use Rattle.std.proofs.{Common.cond, Common.eqb, Math.Nat.mul-le-mul_left, Math.Nat.mul-le-mul_right}
+use Rattle.std.proofs.lemmas.{Int.ints, List.map-append, List.take_more, List.get_or_past, Bool.cases_lt}
+use Rattle.def_math.specs.{Increasing.IsIncreasing, Counts.count}
+use Rattle.def_matching.specs.declared.{weighted.WEdge.WEdge, limits.TheConstants.MAX_PRODUCT}
 use Rattle.def_matching.specs.Matching.{WeightedGraph, edge_at, matching_cost, ends_at, IsCheap, IsGraph, IsSmallGraph}
-use Rattle.def_matching.specs.Dual.{AreSmall, DualLists, IsSmallDual, SaysYes, dual_sum, verdict}
-use Rattle.def_matching.specs.{declared.limits.TheConstants.MAX_PRODUCT, declared.weighted.Verdict.TheVariants.Yes}
-use Rattle.def_forest.specs.{Tables.ForestTables, Tables.forest_of, Tables.IsValidFor, Written.IsDualOf, Made.AreAtMost}
-use Rattle.def_forest.specs.{Made.AreCostsBelow, Made.AreFirst, Made.IsMadeFor, Made.MAX_FIRST, Needs.AreFeasible}
-use Rattle.search_laws.proofs.Risen.{greatest, small_weights, weights_most}
-use Rattle.qm_match.specs.{States.IsIdle, States.IsReady, Weights.HaveRoom, declared.search.Search.Search}
-use Rattle.{std.specs.Prelude.slice_index, std.specs.Int.RustNames.unsigned_abs, sum_laws.proofs.Sums.count_append}
+use Rattle.def_matching.specs.Dual.{AreSmall, DualLists, IsSmallDual}
+use Rattle.def_forest.specs.Tables.{ForestTables, forest_of, edge_kind, kind_by, slack_of, IsValidFor}
+use Rattle.def_forest.specs.{Written.IsDualOf, Needs.AreFeasible, Forests.Forest, Darts.darts_of, Valid.IsValid}
+use Rattle.def_forest.specs.Made.{AreAtMost, AreCostsBelow, AreFirst, IsMadeFor, MAX_FIRST}
+use Rattle.{def_forest.specs.Steps.rooted, search_laws.specs.Searches.IsInRange, search_laws.specs.Searches.first_limit}
+use Rattle.def_forest.specs.declared.kinds.EdgeKind.TheVariants.{Augment, Loose}
+use Rattle.def_forest.specs.declared.kinds.Label.{Label, TheVariants.Outer, TheVariants.Outside}
+use Rattle.forest_laws.proofs.Grows.{set_here, set_there}
+use Rattle.search_laws.proofs.Risen.{greatest, range_begun, small_weights, weights_most}
+use Rattle.qm_match.specs.States.{HasPerfect, IsFreeEdge, IsIdle, IsMade, IsReady}
+use Rattle.qm_match.specs.{Weights.HasRoom, Weights.HaveRoom, declared.search.Search.Search, Fans.AreFans}
+use Rattle.std.specs.{Prelude.slice_index, Prelude.int_lt, Int.RustNames.unsigned_abs}
+use Rattle.sum_laws.proofs.Sums.{count_append, total_append}
 use Rattle.{qm_forest.proofs.Chosens.increasing_more, qm_initial.specs.declared.initial.TheConstants.MAX_WISH}
 
 -- There are no more increasing numbers than numbers in between.
@@ -22,21 +27,12 @@ increasing_few low high [] increasing = omega arith
 increasing_few low high (k ∷ ks) increasing =
     omega (arith, increasing.0, increasing.1, increasing_few (k + 1) high ks increasing.2)
 
--- A sum along a list that is mapped.
-total_map : (g : WeightedGraph) (m : List ℕ) → matching_cost g m ≡ total (λ k. (edge_at g k).cost) m
-total_map g [] = refl
-total_map g (k ∷ ks) = omega (arith, ints, total_map g ks)
-
 -- One edge more.
 pub cost_take : (g : WeightedGraph) (m : List ℕ) (i : ℕ) → i < length m → matching_cost g (take (i + 1) m)
     ≡ matching_cost g (take i m) +ℤ (edge_at g (slice_index m i)).cost
-cost_take g m i l = omega (
-  arith,
-  ints,
-  total_map g (take (i + 1) m),
-  total_map g (take i m),
-  total_take (λ k. (edge_at g k).cost) 0 m i l,
-)
+cost_take g m i l =
+    let sum = total_append (λ (e : WEdge). e.cost) (map (edge_at g) (take i m)) (edge_at g (get_or m i 0) ∷ []) in
+    rw (take_more m i 0 l, map-append (edge_at g) (take i m) (get_or m i 0 ∷ [])) (omega (arith, ints))
 
 -- Edges that are looked at one after another.
 
@@ -49,16 +45,13 @@ module _ (g : WeightedGraph) (xs : List ℕ) (k : ℕ) (low : k < length xs) whe
   -- One edge more, which comes after those before.
   pub increasing_on : (next : ℕ) → next ≤ get_or xs k 0 → IsIncreasing 0 next (take k xs)
       → IsIncreasing 0 (get_or xs k 0 + 1) (take (k + 1) xs)
-  increasing_on next le increasing = subst (λ ys. IsIncreasing 0 (get_or xs k 0 + 1) ys) (sym (take_more xs k 0 low))
-      (increasing_more 0 (get_or xs k 0) (take k xs) (omega arith) (increasing_to 0 next (get_or xs k 0) (take k xs) le
-      increasing))
+  increasing_on next le increasing = rw (take_more xs k 0 low) (increasing_more 0 (get_or xs k 0) (take k xs)
+      (omega arith) (increasing_to 0 next (get_or xs k 0) (take k xs) le increasing))
 
   pub counts_on : (v : ℕ) → count (ends_at v) (map (edge_at g) (take (k + 1) xs))
       ≡ count (ends_at v) (map (edge_at g) (take k xs)) + ends_at v (edge_at g (get_or xs k 0))
-  counts_on v =
-      let more : map (edge_at g) (take (k + 1) xs) ≡ map (edge_at g) (take k xs) ++ edge_at g (get_or xs k 0) ∷ [] =
-      ap (map (edge_at g)) (take_more xs k 0 low) ∙ map-append (edge_at g) (take k xs) (get_or xs k 0 ∷ []) in
-      search (rules, count_append)
+  counts_on v = rw (take_more xs k 0 low, map-append (edge_at g) (take k xs) (get_or xs k 0 ∷ []))
+      (search (rules, count_append))
 
 -- What a match begins with, and what has come of it.
 
@@ -85,34 +78,18 @@ raised_first g y cheap have =
     let w = greatest g cheap in
     let room = have w.0 w.1 in search (rules, mul-le-mul_left)
 
--- A forest whose weights are these numbers.
-made_by : {g : WeightedGraph} (y : List ℤ) {t u : ForestTables} → length y ≡ g.n
+-- A forest whose weights were given is made for the graph.
+pub made_first : {g : WeightedGraph} (y : List ℤ) {t u : ForestTables} → length y ≡ g.n
     → (IsCheap g → (b : ℕ) → g.n * unsigned_abs (get_or y b (pos 0)) ≤ MAX_FIRST) → u ≡ t → IsValidFor g t
     → t.root ≡ None → length t.up ≡ g.n + g.n / 2 → ((b : ℕ) → (forest_of t).weight b ≡ get_or y b (pos 0))
     → IsMadeFor g u
-made_by {g} y {t} long range same valid none size weights = rw same (record {
+made_first y long range same valid none size weights = rw same (record {
   valid = valid;
   no_tree = none;
   size = size;
   sets = λ b high. weights b ∙ get_or_past y b (pos 0) (omega (arith, high, long));
-  small = λ cheap b. subst (λ (w : ℤ). g.n * unsigned_abs w ≤ MAX_FIRST) (sym (weights b)) (range cheap b);
+  small = λ cheap b. rw (weights b) (range cheap b);
 })
-
--- A forest whose weights are the raised costs.
-pub made_raised : {g : WeightedGraph} (y : List ℤ) {t u : ForestTables} → AreCostsBelow g (2 ^ 60)
-    → ((most : ℕ) → AreCostsBelow g most → HaveRoom g most y) → u ≡ t → IsValidFor g t → t.root ≡ None
-    → length t.up ≡ g.n + g.n / 2 → ((b : ℕ) → (forest_of t).weight b ≡ get_or y b (pos 0))
-    → IsMadeFor g u × ((most : ℕ) → AreCostsBelow g most → (b : ℕ) → unsigned_abs ((forest_of u).weight b) ≤ most)
-made_raised {g} y costs have same valid none size weights = (
-  made_by y (have (2 ^ 60) costs).long (λ cheap. (raised_first g y cheap have).range) same valid none size weights,
-  rw same (λ most below b. subst (λ (w : ℤ). unsigned_abs w ≤ most) (sym (weights b)) ((have most below).small b)),
-)
-
--- A forest whose weights were given.
-pub made_first : {g : WeightedGraph} {y : List ℤ} {t u : ForestTables} → AreFirst g y → u ≡ t → IsValidFor g t
-    → t.root ≡ None → length t.up ≡ g.n + g.n / 2 → ((b : ℕ) → (forest_of t).weight b ≡ get_or y b (pos 0))
-    → IsMadeFor g u
-made_first {y} first = made_by y first.long (λ cheap. first.range)
 
 -- First weights are feasible, and small.
 pub first_feasible : {g : WeightedGraph} {y : List ℤ} → AreFirst g y → AreFeasible g y
@@ -120,10 +97,8 @@ first_feasible {g} {y} first = search (rules, get_or_past)
 
 -- Numbers near wished ones may be the first.
 pub wished_first : {g : WeightedGraph} (ys y : List ℤ) → y ≡ ys → IsSmallGraph g → IsCheap g → length ys ≡ g.n
-    → ((most : ℕ) → ((e : ℕ) → e < length g.edges → unsigned_abs (edge_at g e).cost ≤ most) → (v : ℕ)
-    → unsigned_abs (get_or ys v (pos 0)) ≤ 2 * most + MAX_WISH)
-    → ((e : ℕ) → e < length g.edges → (get_or ys (edge_at g e).u (pos 0) +ℤ get_or ys (edge_at g e).v (pos 0)) ≤ℤ
-    (pos 2 *ℤ (edge_at g e).cost)) → AreFirst g y
+    → ((most : ℕ) → AreCostsBelow g most → (v : ℕ) → unsigned_abs (get_or ys v (pos 0)) ≤ 2 * most + MAX_WISH)
+    → ((e : ℕ) → e < length g.edges → HasRoom g ys e) → AreFirst g y
 wished_first {g} ys y same small cheap long near feasible = rw same (record {
   long = long;
   range = λ v. (let w = greatest g cheap in
@@ -138,40 +113,35 @@ pub wished_small : (g : WeightedGraph) {ys y : List ℤ} → y ≡ ys → IsChea
 wished_small g same cheap long near = rw same (λ v l. (let w = greatest g cheap in
     omega (arith, near w.0 w.1 v, w.2, one_of g.n w.0 (omega (arith, long)))))
 
--- The dual of a forest in range is small.
-pub small_dual : {g : WeightedGraph} {s : Search} {d : DualLists} → IsIdle g s
-    → IsDualOf (length s.forest.hand) (forest_of s.forest) d → 2 * length d.z ≤ length s.forest.hand → IsSmallDual d
-small_dual {s} {d} idle is few = record {
-  sets = omega (arith, few, idle.valid.vertices, idle.made.small.vertices);
-  small_y = λ k l. (let w : get_or d.y k (pos 0) ≡ (forest_of s.forest).weight k =
-      is.y k (omega (arith, l, is.vertices)) in omega (arith, ints, w, weight_low k));
-  small_z = λ k l. (let w : get_or d.z k (pos 0) ≡ (forest_of s.forest).weight (is.sets k l).0 = (is.sets k l).3 in
-      omega (arith, ints, w, weight_low (is.sets k l).0));
+-- No number of a dual is greater than the weights of its forest.
+dual_most : {n : ℕ} {f : Forest} {d : DualLists} (most : ℕ) → IsDualOf n f d → 2 * length d.z ≤ n
+    → (1 ≤ n → (b : ℕ) → unsigned_abs (f.weight b) ≤ most) → AreAtMost most d
+dual_most {n} {f} {d} most is few low = record {
+  vertices = λ k l. rw (is.y k (omega (arith, is.vertices))) (low (omega (arith, is.vertices)) k);
+  sets = λ k l. rw (is.sets k l).3 (low (omega arith) (is.sets k l).0);
 }
-  where
-    weight_low : (b : ℕ) → unsigned_abs ((forest_of s.forest).weight b) ≤ 6 * MAX_PRODUCT
-    weight_low b = small_weights idle.made.small.lawful idle.made.cheap idle.made.perfect.1 idle.made.first
-        idle.made.low idle.range idle.valid.valid b
 
--- And no number is far above the first weights and the costs.
-pub bounded_dual : {g : WeightedGraph} {s : Search} {d : DualLists} → IsIdle g s
-    → IsDualOf (length s.forest.hand) (forest_of s.forest) d → 2 * length d.z ≤ length s.forest.hand
-    → (most : ℕ) → AreCostsBelow g most → AreAtMost (2 * (g.n * s.first) + g.n * most) d
-bounded_dual {g} {s} {d} idle is few most each = record {
-  vertices = λ k l. (let w : get_or d.y k (pos 0) ≡ (forest_of s.forest).weight k =
-      is.y k (omega (arith, l, is.vertices)) in
-      omega (arith, ints, w, weight_low k (omega (arith, l, is.vertices, idle.valid.vertices))));
-  sets = λ k l. (let w : get_or d.z k (pos 0) ≡ (forest_of s.forest).weight (is.sets k l).0 = (is.sets k l).3 in
-      omega (arith, ints, w, weight_low (is.sets k l).0 (omega (arith, l, few, idle.valid.vertices))));
-}
-  where
-    weight_low : (b : ℕ) → 1 ≤ g.n → unsigned_abs ((forest_of s.forest).weight b) ≤ 2 * (g.n * s.first) + g.n * most
-    weight_low b some = omega (
-      arith,
-      one_of g.n s.first some,
-      weights_most idle.made.small.lawful idle.made.cheap
-          idle.made.perfect.1 idle.made.first idle.made.low idle.range idle.valid.valid most each b,
-    )
+module _ {g : WeightedGraph} {s : Search} {d : DualLists} (idle : IsIdle g s)
+    (is : IsDualOf (length s.forest.hand) (forest_of s.forest) d) (few : 2 * length d.z ≤ length s.forest.hand) where
+  -- The dual of a forest in range is small.
+  pub small_dual : IsSmallDual d
+  small_dual =
+      let most = dual_most (6 * MAX_PRODUCT) is few (λ some. small_weights idle.made.small.lawful idle.made.cheap
+      idle.made.perfect.1 idle.made.first idle.made.low idle.range idle.valid.valid) in
+      record {
+        sets = omega (arith, few, idle.valid.vertices, idle.made.small.vertices);
+        small_y = λ k l. omega (arith, ints, most.vertices k l);
+        small_z = λ k l. omega (arith, ints, most.sets k l);
+      }
+
+  -- And no number is far above the first weights and the costs.
+  pub bounded_dual : (most : ℕ) → AreCostsBelow g most → AreAtMost (2 * (g.n * s.first) + g.n * most) d
+  bounded_dual most each = dual_most (2 * (g.n * s.first) + g.n * most) is few (λ some b. omega (
+    arith,
+    one_of g.n s.first (omega (arith, some, idle.valid.vertices)),
+    weights_most idle.made.small.lawful idle.made.cheap idle.made.perfect.1 idle.made.first idle.made.low idle.range
+        idle.valid.valid most each b,
+  ))
 
 -- Greater bounds hold too.
 pub at_most_more : {d : DualLists} {x : ℕ} (y : ℕ) → x ≤ y → AreAtMost x d → AreAtMost y d
@@ -186,11 +156,42 @@ run_bounded g {s} end ready same first most each are =
     in
     at_most_more (2 * (g.n * first) + g.n * most) (omega (arith, mul-le-mul_left g.n low)) are
 
--- The bound for the usual first weights.
-pub best_bounded : (n most : ℕ) {d : DualLists} → AreAtMost (2 * (n * most) + n * most) d → AreAtMost (4 * n * most) d
-best_bounded n most are = at_most_more (4 * n * most) (omega arith) are
+-- Searches that are about to begin, and edges that are matched before.
 
--- The verdict on a dual that says yes.
-pub met_verdict : {g : WeightedGraph} {d : DualLists} {cost : ℤ} → SaysYes g d → dual_sum d ≡ cost
-    → verdict g d ≡ Yes cost
-met_verdict {g} {d} says sum = says_yes g d says ∙ ap (λ (x : ℤ). Yes x) sum
+-- The tables that are ready fit the graph for which the matcher is made.
+pub ready_idle : {g : WeightedGraph} {s : Search} → IsSmallGraph g → IsCheap g → HasPerfect g → IsReady s
+    → IsMadeFor g s.forest → IsIdle g s
+ready_idle {g} {s} small cheap perfect ready for =
+    let halves = ap (λ n. n / 2) for.valid.vertices in
+    let limits : (g.n * s.first ≤ first_limit) × (s.first ≤ first_limit) = elim ready.attained [
+      | inl none ↦ (rw none (omega arith), omega arith)
+      | inr w ↦
+          let limit = rw w.1 at (for.small cheap w.0) in
+          (limit, grind (arith, ints, w.1, one_of g.n s.first, for.sets w.0))
+    ] in
+    let (limit, low) = limits in
+    let fans : AreFans g s.fans.first.items s.fans.next.items = record {
+      vertices = ready.vertices ∙ for.valid.vertices;
+      darts = ready.darts ∙ for.valid.darts;
+      firsts = λ v. omega (arith, ready.firsts v, for.valid.darts);
+      nexts = ready.nexts;
+      all = λ d l. rw (← for.valid.ends d l) (ready.all d (omega (arith, for.valid.darts)));
+    } in
+    let made : IsMade g s = search rules in
+    let range : IsInRange g.n s.first (forest_of s.forest) s.risen = rw ready.risen (range_begun g.n s.first
+    (forest_of s.forest) for.size for.sets
+    (λ b. grind (arith, ints, cases_lt b (length s.forest.up), ready.above b, for.sets b, for.size))) in
+    assumption
+
+augments : (slack : ℤ) {a b : Label} (ma : Option ℕ) {mb : Option ℕ} (same : Bool) → unsigned_abs slack ≡ 0 → a ≡ Outer
+    → b ≡ Outside → mb ≡ None → cond (int_lt (pos 0) slack) Loose (kind_by a b ma mb same) ≡ Augment
+augments slack ma same tight a_is b_is none = grind (arith, ints)
+
+-- A free edge may be matched once its one end is the root.
+pub free_augments : {g : WeightedGraph} {f : Forest} {e : ℕ} → IsValid (darts_of g) f None → IsFreeEdge g f e
+    → edge_kind g (rooted f (f.out (edge_at g e).u)) e ≡ Augment
+free_augments {g} {f} {e} valid free =
+    let u = f.out (edge_at g e).u in
+    let v = f.out (edge_at g e).v in
+    augments (slack_of g f e) (f.mate u) (eqb u v) free.tight (set_here f.label u Outer)
+    (set_there f.label u v Outer (λ same. free.apart (sym same)) ∙ valid.no_tree refl v) free.right

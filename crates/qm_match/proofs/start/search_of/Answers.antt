@@ -1,6 +1,6 @@
-use Rattle.std.proofs.Common.{rules, ◌≡◌, ◌+◌, ◌-◌, ◌/◌, ◌^◌, ◌≤◌, ◌∙◌, length, get_or, refl, sym, subst, ap, arith}
+use Rattle.std.proofs.Common.{rules, ◌≡◌, ◌+◌, ◌-◌, ◌/◌, ◌^◌, ◌∙◌, length, refl, sym, ap, arith}
 use Rattle.std.proofs.{lemmas.Grind.get_or_default_zero, lemmas.List.length-replicate}
-use Rattle.{qm_forest.proofs.Fresh.same_everywhere, qm_match.proofs.Ready.chains_ready}
+use Rattle.qm_forest.proofs.Fresh.{same_everywhere}
 
 pub returns-clause-ready : Rattle.qm_match.proofs.start.search_of.Goals.returns-clause-ready
 returns-clause-ready c =
@@ -11,10 +11,10 @@ returns-clause-ready c =
     record {
       vertices = c.requires.fans.vertices ∙ sym c.requires.valid.vertices;
       darts = c.requires.fans.darts ∙ sym c.requires.valid.darts;
-      firsts = λ v. subst (λ n. get_or c.args.fans.first.items v 0 ≤ n) (sym c.requires.valid.darts)
-          (c.requires.fans.firsts v);
+      firsts = λ v. rw c.requires.valid.darts (c.requires.fans.firsts v);
       nexts = c.requires.fans.nexts;
-      all = chains_ready c.args.fans.first.items c.args.fans.next.items c.requires.fans c.requires.valid;
+      all = λ d l. (let low = rw c.requires.valid.darts at l in
+          rw (c.requires.valid.ends d low) (c.requires.fans.all d low));
       leaves = omega (arith, size, c.edge_count.ensures.value, halves, c.requires.valid.darts);
       marks = search rules;
       members = omega (arith, c.in_ok-with_capacity.ensures.capacity, c.requires.valid.vertices, c.n-n.ensures.value);

@@ -5,7 +5,9 @@ pub new_from-requires : goal.new_from-requires
 new_from-requires c = first_feasible c.requires.first
 
 pub returns : goal.returns
-returns c = record {
-  made = made_first c.requires.first c.in_ok-search.ensures.same c.in_ok-forest.ensures.valid
-      c.in_ok-forest.ensures.no_tree c.in_ok-forest.ensures.size c.in_ok-forest.ensures.weights;
-}
+returns c =
+    let f = c.in_ok-forest.ensures in
+    let y = c.requires.first in
+    record {
+      made = made_first _ y.long (λ cheap. y.range) c.in_ok-search.ensures.same f.valid f.no_tree f.size f.weights;
+    }

@@ -1,5 +1,5 @@
-use Rattle.std.proofs.Common.{rules, ◌∙◌, sym, ap}
-use Rattle.qm_match.proofs.{Stepped.begun_seeking, Stepped.begun_way, Taken.made_after, Taken.may_vertex}
+use Rattle.std.proofs.Common.{◌∙◌, sym, ap}
+use Rattle.qm_match.proofs.Stepped.{begun_seeking, begun_way, made_after, may_vertex}
 use Rattle.qm_match.proofs.{search.Search.begin.Goals.After-root}
 use Rattle.{def_forest.specs.Forests.Forest, def_forest.specs.Tables.IsValidFor}
 use Rattle.qm_match.proofs.search.Search.begin.Goals as goal
@@ -17,8 +17,9 @@ returns c =
     let is = c.refresh.ensures.refreshed in
     let right = valid (goal.at.returns c).After-root in
     let root = c.root.ensures in
-    record {
-      way = search (rules, begun_way);
-      seeking = begun_seeking _ c.requires.idle right is root.changed c.requires.vertex c.requires.before root.root;
-      first = is.first;
-    }
+    assumption (
+      begun_way c.args.v c.requires.idle right is root.changed root.root
+          (rw c.outermost-b.ensures.value at c.refresh.ensures.here),
+      begun_seeking c.args.v c.requires.idle right is root.changed root.root c.requires.vertex c.requires.before,
+      is.first,
+    )

@@ -1,5 +1,6 @@
 use Rattle.std.proofs.Common.{rules, ◌≡◌, suc, ◌+◌, ◌++◌, [], ◌∷◌, arith}
-use Rattle.{std.proofs.lemmas.Grind.common_steps, qm_match.proofs.Taken.parts_few, qm_forest.proofs.Chosens.copied_more}
+use Rattle.{std.proofs.lemmas.Grind.common_steps, qm_forest.proofs.Chosens.copied_more}
+use Rattle.qm_match.proofs.Stepped.{parts_few}
 use Rattle.qm_match.proofs.search.Search.list_parts.Goals as goal
 
 pub unwrap-requires : goal.unwrap-requires
@@ -9,7 +10,7 @@ unwrap-requires c = c.push.ensures.succeeds (omega (
   c.loop.invariant.room,
   c.loop-test.true,
   c.parts-end.ensures,
-  parts_few c.requires.made.small.lawful c.args.b c.requires.valid c.requires.set c.requires.live,
+  parts_few c.requires,
   c.loop.self.parts.ok.0,
 ))
 

@@ -1,5 +1,5 @@
 use Rattle.std.proofs.Common.{◌≡◌, ℕ, ◌<◌, ◌≤◌, get_or, length}
-use Rattle.{std.specs.Vec.vec_capacity, qm_match.proofs.Taken.part_of}
+use Rattle.{std.specs.Vec.vec_capacity, qm_match.proofs.Stepped.part_of}
 
 abbrev pub invariant-loop : Rattle.qm_match.proofs.search.Search.list_parts.Given.invariant-loop
 invariant-loop l = record {

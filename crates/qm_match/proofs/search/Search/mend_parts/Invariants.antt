@@ -1,6 +1,6 @@
 use Rattle.std.proofs.Common.{◌≡◌, ℕ, ◌<◌, ◌≤◌, get_or, true, false}
 use Rattle.search_laws.specs.Keys.{AreRightAt, IsMended}
-use Rattle.{std.specs.Vec.vec_capacity, def_forest.specs.Tables.forest_of, qm_match.proofs.Taken.part_of}
+use Rattle.{std.specs.Vec.vec_capacity, def_forest.specs.Tables.forest_of, qm_match.proofs.Stepped.part_of}
 
 abbrev pub invariant-loop : Rattle.qm_match.proofs.search.Search.mend_parts.Given.invariant-loop
 invariant-loop l = record {

@@ -1,7 +1,5 @@
 use Rattle.std.proofs.Common.{sym, ◌∙◌}
 
 pub far_blossom-requires : Rattle.qm_match.proofs.search.Search.partner.Goals.far_blossom-requires
-far_blossom-requires c = record {
-  vertices = c.requires.valid.vertices;
-  dart = (c.requires.valid.valid.matched c.args.b c.in-Some.m (sym c.mate.ensures ∙ c.in-Some.is)).tight.low;
-}
+far_blossom-requires c = assumption
+    ((c.requires.valid.valid.matched c.args.b c.in-Some.m (sym c.mate.ensures ∙ c.in-Some.is)).tight.low)
