@@ -1,5 +1,4 @@
-use Rattle.std.proofs.{Common.◌+◌, Common.◌≤◌, Common.◌^◌, Common.arith, lemmas.Result.on_ok_weaker}
-use Rattle.std.specs.BTreeSet.{btree_set_len}
+use Rattle.std.proofs.{Common.◌^◌, Common.arith, lemmas.Result.on_ok_weaker}
 use Rattle.qm_merge.proofs.{Rejoined.both_ok, Rejoined.marks_fewer, Rejoined.wait_still, Linked.has_room}
 use Rattle.qm_merge.proofs.{Linked.links_after, Rounds.next_is_corner}
 use Rattle.qm_merge.proofs.merged.drop_first.Goals as goal
@@ -23,16 +22,12 @@ note_from-requires-clause-tied c = let f = c.requires.cutting in
     })
 
 pub note_from-requires-clause-dart : goal.note_from-requires-clause-dart
-note_from-requires-clause-dart c =
-    let f = c.requires.cutting in
-    let near = rw c.new-before.ensures at c.round_from-near.ensures in
-    rw c.new-after.ensures (next_is_corner f.laws f.full near.fourth).0
+note_from-requires-clause-dart c = let f = c.requires.cutting in rw c.new-after.ensures
+    (next_is_corner f.laws f.full (rw c.new-before.ensures at c.round_from-near.ensures).fourth).0
 
 pub note_from-requires-2-clause-dart : goal.note_from-requires-2-clause-dart
-note_from-requires-2-clause-dart c =
-    let f = c.requires.cutting in
-    let far = rw c.new-before.ensures at c.round_from-far.ensures in
-    rw c.new-after.ensures (next_is_corner f.laws f.full far.fourth).0
+note_from-requires-2-clause-dart c = let f = c.requires.cutting in rw c.new-after.ensures
+    (next_is_corner f.laws f.full (rw c.new-before.ensures at c.round_from-far.ensures).fourth).0
 
 pub returns-clause-waiting : goal.returns-clause-waiting
 returns-clause-waiting c =
@@ -53,12 +48,10 @@ returns-clause-below c = let one = rw c.new-after.ensures at c.in_ok-note_from.e
 
 pub returns-clause-fewer : goal.returns-clause-fewer
 returns-clause-fewer c =
-    let one : btree_set_len c.note_from.new.names ≤ btree_set_len c.args.names.now + 1 =
-    c.in_ok-note_from.ensures.few in
     on_ok_weaker c.note_from-2.result (λ few. omega (
       arith,
       few,
-      one,
+      c.in_ok-note_from.ensures.few,
       marks_fewer c.drop_seam.new.cut c.requires.cutting c.args.place c.requires.seam c.drop_seam.ensures.long
           c.drop_seam.ensures.without,
     )) c.note_from-2.ensures.few

@@ -1,10 +1,10 @@
-use Rattle.std.proofs.Common.{true, refl, ◌≡◌, ◌⊎◌, suc, length, sym, ◌∙◌, inl, inr, arith}
-use Rattle.std.proofs.{lemmas.Bool.cases_lt, lemmas.Bool.false≢true, lemmas.Map.Keys.le_from_not_gt}
+use Rattle.std.proofs.Common.{refl, false, suc, sym, ◌∙◌, arith}
+use Rattle.std.proofs.{lemmas.Bool.false≢true, lemmas.Map.Keys.le_from_not_gt}
 use Rattle.def_mesh.specs.{Darts.darts, HalfEdges.half_edges}
 use Rattle.merge_laws.proofs.{Beside.part_reached, Beside.held_law, Beside.turned_may, Decided.name_there}
-use Rattle.qm_merge.proofs.{Rejoined.less_on, Rejoined.name_gone, Rejoined.step_taken, Names.none_named}
-use Rattle.qm_merge.proofs.{Names.none_waits, Names.seam_free, Names.taken_below, Names.taken_kept}
-use Rattle.{def_merge.specs.Beside.may_beside, feature_laws.proofs.Conforming.mark_low, qm_merge.specs.Links.at}
+use Rattle.qm_merge.proofs.{Rejoined.less_on, Rejoined.name_gone, Rejoined.step_taken}
+use Rattle.qm_merge.proofs.Names.{free_still, none_waits, seam_free, still_waits, taken_below}
+use Rattle.{def_merge.specs.Beside.may_beside, feature_laws.proofs.Conforming.mark_low}
 use Rattle.qm_merge.proofs.merged.merge_all.Goals as goal
 
 pub loop-name-init : goal.loop-name-init
@@ -22,7 +22,7 @@ invariant_of-linked c = record { tied = rw c.new-now.ensures c.loop-name.invaria
 
 pub drop_first-requires-clause-below : goal.drop_first-requires-clause-below
 drop_first-requires-clause-below c = taken_below c.loop-name.names c.pop_first.new.self c.in-Some.name
-    c.in-Some.ensures.updates (darts c.args.mesh.now) c.loop-name.invariant.below
+    (darts c.args.mesh.now) c.in-Some.ensures.updates c.loop-name.invariant.below
 
 pub loop-name-preserved-in-Continue-branch-3 : goal.loop-name-preserved-in-Continue-branch-3
 loop-name-preserved-in-Continue-branch-3 c =
@@ -53,8 +53,9 @@ loop-name-preserved-in-Continue-branch-3 c =
       waiting = λ s t n name arc free named. e.waiting s t n name arc named (λ old.
           let w = was.waiting s t n name old (held_law c.args.mesh.now c.args.marks.now c.loop-name.cut rest s t n
           (less_on rest was.cutting place found e.long e.without) free) named in (
-            taken_kept c.loop-name.names c.pop_first.new.self c.in-Some.name c.in-Some.ensures.updates name
-                (λ same. name_gone rest was.cutting place found e.long e.without arc named (same ∙ sym p.named)) w.0,
+            still_waits c.loop-name.names c.pop_first.new.self c.in-Some.name false
+                c.in-Some.ensures.updates name (λ same. absurd (name_gone rest was.cutting place found
+                e.long e.without arc named (same ∙ sym p.named))) w.0,
             w.1,
           ));
       below = e.below;
@@ -63,62 +64,40 @@ loop-name-preserved-in-Continue-branch-3 c =
 pub loop-name-preserved-else-may_leave : goal.loop-name-preserved-else-may_leave
 loop-name-preserved-else-may_leave c =
     let was = c.loop-name.invariant in
-    let may = rw c.new-now.ensures at c.may_leave.ensures in
-    let p = c.in-Some-place_of.ensures in
-    let found = rw c.new-now.ensures at p.found in
-    let taken = c.in-Some.ensures.updates in
-    record {
-      cutting = was.cutting;
-      tied = was.tied;
-      reached = was.reached;
-      waiting = λ s t n name arc free named.
-          let w = was.waiting s t n name arc free named in (
-            taken_kept c.loop-name.names c.pop_first.new.self c.in-Some.name taken name (λ same.
-                let start : c.in-Some-place_of.place.start ≡ at c.loop-name.links.starts.items name =
-                cc (p.start, same) in
-                let side : (c.in-Some-place_of.place.start ≡ s) ⊎ (c.in-Some-place_of.place.start ≡ t) =
-                elim w.1 [ inl q ↦ inl (start ∙ q) | inr q ↦ inr (start ∙ q) ] in
-                false≢true (sym c.if-may_leave.false ∙ may.1 (seam_free was.cutting.laws was.cutting.full
-                (may_beside c.args.mesh.now c.args.marks.now c.loop-name.cut)
-                (turned_may c.args.mesh.now c.args.marks.now c.loop-name.cut) found arc free side))) w.0,
-            w.1,
-          );
-      below = taken_below c.loop-name.names c.pop_first.new.self c.in-Some.name taken (darts c.args.mesh.now) was.below;
-    }
+    let may = may_beside c.args.mesh.now c.args.marks.now c.loop-name.cut in
+    let free = rw c.new-now.ensures at c.may_leave.ensures in
+    let place = c.in-Some-place_of.ensures in
+    assumption (
+      free_still was.cutting.laws was.cutting.full may (turned_may c.args.mesh.now c.args.marks.now c.loop-name.cut)
+          c.loop-name.names c.pop_first.new.self c.loop-name.links.starts.items c.in-Some.name
+          c.in-Some.ensures.updates was.waiting (λ t n arc y named. false≢true (sym c.if-may_leave.false
+          ∙ free.1 (seam_free was.cutting.laws was.cutting.full may (rw c.new-now.ensures at place.found)
+          {t = t} {n = n} (rw place.start arc) (rw place.start y)))),
+      taken_below c.loop-name.names c.pop_first.new.self c.in-Some.name (darts c.args.mesh.now)
+          c.in-Some.ensures.updates was.below,
+    )
 
 pub loop-name-preserved : goal.loop-name-preserved
 loop-name-preserved c =
     let was = c.loop-name.invariant in
-    let starts = c.loop-name.links.starts.items in
-    let taken = c.in-Some.ensures.updates in
-    record {
-      cutting = was.cutting;
-      tied = was.tied;
-      reached = was.reached;
-      waiting = λ s t n name arc free named.
-          let w = was.waiting s t n name arc free named in (
-            taken_kept c.loop-name.names c.pop_first.new.self c.in-Some.name taken name (λ same.
-                let start : at c.loop-name.links.starts.items c.in-Some.name ≡ at c.loop-name.links.starts.items name =
-                cc same in
-                none_named was.cutting.laws was.cutting.full (at starts c.in-Some.name)
-                (rw c.new-now.ensures at c.in_default-place_of.ensures.none) arc (rw (← same) named)
-                (elim w.1 [ inl q ↦ inl (start ∙ q) | inr q ↦ inr (start ∙ q) ])) w.0,
-            w.1,
-          );
-      below = taken_below c.loop-name.names c.pop_first.new.self c.in-Some.name taken (darts c.args.mesh.now) was.below;
-    }
+    assumption (
+      free_still was.cutting.laws was.cutting.full (may_beside c.args.mesh.now c.args.marks.now c.loop-name.cut)
+          (turned_may c.args.mesh.now c.args.marks.now c.loop-name.cut) c.loop-name.names c.pop_first.new.self
+          c.loop-name.links.starts.items c.in-Some.name c.in-Some.ensures.updates was.waiting
+          (λ t n arc free. (rw c.new-now.ensures at c.in_default-place_of.ensures.none) t n arc),
+      taken_below c.loop-name.names c.pop_first.new.self c.in-Some.name (darts c.args.mesh.now)
+          c.in-Some.ensures.updates was.below,
+    )
 
 pub returns-clause-merged : goal.returns-clause-merged
-returns-clause-merged c =
-    let none : length c.loop-name.names.keys ≡ 0 = elim (cases_lt 0 (length c.loop-name.names.keys))
-    [ inl some ↦ absurd (false≢true (c.in_default.ensures.variant.1 some)) | inr few ↦ omega (arith, few) ] in
-    record {
-      steps = c.loop-name.invariant.reached.0;
-      reached = c.loop-name.invariant.reached.1;
-      merged = λ s t n arc free.
-          let m = name_there (half_edges c.args.mesh.now) s t n arc.glued.near.some in
-          none_waits c.loop-name.names m.0 none (c.loop-name.invariant.waiting s t n m.0 arc free m.1).0;
-    }
+returns-clause-merged c = record {
+  steps = c.loop-name.invariant.reached.0;
+  reached = c.loop-name.invariant.reached.1;
+  merged = λ s t n arc free.
+      let m = name_there (half_edges c.args.mesh.now) s t n arc.glued.near.some in
+      none_waits c.loop-name.names.keys m.0 (λ some. false≢true (c.in_default.ensures.variant.1 some))
+      (c.loop-name.invariant.waiting s t n m.0 arc free m.1).0;
+}
 
 pub returns-clause-part : goal.returns-clause-part
 returns-clause-part c = let f = c.requires.cutting in

@@ -1,6 +1,6 @@
-use Rattle.std.proofs.Common.{◌≡◌, min, false, Some, sym, ◌∙◌, arith, true, true≢false}
+use Rattle.std.proofs.Common.{◌≡◌, Some, sym, ◌∙◌, arith, true, true≢false}
 use Rattle.qm_grid.proofs.Found.{row_at, row_inside, row_never}
-use Rattle.qm_merge.proofs.Rounds.{least_of_three, glued_more, name_more, glued_done, name_done, no_twin, leads_there}
+use Rattle.qm_merge.proofs.Rounds.{glued_more, name_more, glued_done, name_done, no_twin, leads_there}
 use Rattle.{std.proofs.lemmas.Bool.false≢true, def_mesh.specs.Darts.next_of, def_mesh.specs.Darts.twin_of}
 use Rattle.{def_mesh.specs.HalfEdges.half_edges, def_cut.specs.FullCut.is_on, qm_merge.proofs.Rounds.far_corner}
 use Rattle.qm_merge.proofs.seams.glued_from.Goals as goal
@@ -15,18 +15,17 @@ pub returns-then-not-leads_on-clause-none : goal.returns-then-not-leads_on-claus
 returns-then-not-leads_on-clause-none c =
     let i = c.loop-n.invariant in
     let f = c.is_full.ensures in
-    let tw : twin_of c.args.cut.now.faces c.loop-n.d ≡ Some c.in-Some.twin = sym c.in-Some.ensures.value in
-    λ t m g. false≢true (sym c.if-not-leads_on.true
-    ∙ c.leads_on.ensures.1 (leads_there f.laws f.full c.requires.corner i.at i.inside g tw i.glued))
+    λ t m g. false≢true (sym c.if-not-leads_on.true ∙ c.leads_on.ensures.1 (leads_there f.laws f.full c.requires.corner
+    i.at i.inside g (sym c.in-Some.ensures.value) i.glued))
 
 pub returns-then-not-is_cut-clause-none : goal.returns-then-not-is_cut-clause-none
 returns-then-not-is_cut-clause-none c =
     let i = c.loop-n.invariant in
     let f = c.is_full.ensures in
-    let tw : twin_of c.args.cut.now.faces c.loop-n.d ≡ Some c.in-Some.twin = sym c.in-Some.ensures.value in
     let on : is_on c.args.cut.now.marks (next_of c.loop-n.d) ≡ true =
     cc (c.next.ensures.value, c.is_cut.ensures, c.if-is_cut.true) in
-    λ t m g. true≢false (sym (far_corner f.laws f.full c.requires.corner i.at i.inside g tw on)
+    λ t m g. true≢false (sym (far_corner f.laws f.full c.requires.corner i.at i.inside g
+    (sym c.in-Some.ensures.value) on)
     ∙ (cc (c.prev.ensures.value, c.is_cut-then-is_cut.ensures, c.if-not-is_cut.true)))
 
 pub returns-then-is_cut-clause-found : goal.returns-then-is_cut-clause-found
@@ -34,16 +33,13 @@ returns-then-is_cut-clause-found c =
     let i = c.loop-n.invariant in
     let f = c.is_full.ensures in
     let tw : twin_of c.args.cut.now.faces c.loop-n.d ≡ Some c.in-Some.twin = sym c.in-Some.ensures.value in
-    let on : is_on c.args.cut.now.marks (next_of c.loop-n.d) ≡ true =
-    cc (c.next.ensures.value, c.is_cut.ensures, c.if-is_cut.true) in
     let leads = c.leads_on.ensures.0 c.if-not-leads_on.false in
-    let e : c.min-name.result ≡ least_of_three c.loop-n.name c.loop-n.d c.in-Some.twin =
-    cc (c.min-name.ensures, c.min.ensures) in
     record {
-      glued = glued_done f.laws f.full c.requires.corner i.at i.inside (glued_more (is_on c.args.cut.now.marks) i.at tw
-          leads i.glued) tw on (cc (c.prev.ensures.value, c.is_cut-then-is_cut.ensures, c.if-not-is_cut.false));
-      named = rw e (name_done f.laws f.full c.requires.corner i.at i.inside
-          (name_more (is_on c.args.cut.now.marks) i.at tw leads i.named));
+      glued = glued_done f.laws f.full c.requires.corner i.at i.inside tw leads i.glued
+          (cc (c.next.ensures.value, c.is_cut.ensures, c.if-is_cut.true))
+          (cc (c.prev.ensures.value, c.is_cut-then-is_cut.ensures, c.if-not-is_cut.false));
+      named = rw (c.min-name.ensures, c.min.ensures)
+          (name_done f.laws f.full c.requires.corner i.at i.inside tw leads i.named);
     }
 
 pub loop-n-preserved : goal.loop-n-preserved
@@ -51,18 +47,15 @@ loop-n-preserved c =
     let i = c.loop-n.invariant in
     let f = c.is_full.ensures in
     let tw : twin_of c.args.cut.now.faces c.loop-n.d ≡ Some c.in-Some.twin = sym c.in-Some.ensures.value in
-    let off : is_on c.args.cut.now.marks (next_of c.loop-n.d) ≡ false =
-    cc (c.next.ensures.value, c.is_cut.ensures, c.if-is_cut.false) in
     let leads = c.leads_on.ensures.0 c.if-not-leads_on.false in
-    let e : c.min-name.result ≡ least_of_three c.loop-n.name c.loop-n.d c.in-Some.twin =
-    cc (c.min-name.ensures, c.min.ensures) in
     record {
       at = row_at (half_edges c.args.cut.now.faces) c.args.s c.loop-n.d c.east-d.result c.loop-n.n i.at
           c.east-d.ensures.value;
       low = c.east-d.ensures.dart;
-      inside = row_inside _ f.laws _ f.full c.args.s c.loop-n.d c.loop-n.n i.at i.inside off;
+      inside = row_inside _ f.laws _ f.full c.args.s c.loop-n.d c.loop-n.n i.at i.inside
+          (cc (c.next.ensures.value, c.is_cut.ensures, c.if-is_cut.false));
       glued = glued_more (is_on c.args.cut.now.marks) i.at tw leads i.glued;
-      named = rw e (name_more (is_on c.args.cut.now.marks) i.at tw leads i.named);
+      named = rw (c.min-name.ensures, c.min.ensures) (name_more (is_on c.args.cut.now.marks) i.at tw leads i.named);
     }
 
 pub unreachable-requires : goal.unreachable-requires

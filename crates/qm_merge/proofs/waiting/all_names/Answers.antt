@@ -1,6 +1,4 @@
-use Rattle.std.proofs.{Common.ℕ, Common.subst, Common.inl, Common.inr, Common.arith, lemmas.Bool.cases_eq}
-use Rattle.def_merge.specs.Joins.{IsJoinable, IsNameOf}
-use Rattle.{def_mesh.specs.HalfEdges.half_edges, def_cut.specs.FullCut.is_on}
+use Rattle.std.proofs.{Common.inl, Common.inr, Common.arith, lemmas.Bool.cases_eq}
 use Rattle.qm_merge.proofs.waiting.all_names.Goals as goal
 
 pub loop-d-preserved : goal.loop-d-preserved
@@ -8,9 +6,7 @@ loop-d-preserved c = let e = c.in_ok-note_from.ensures in
     record {
       tied = e.tied;
       all = λ s t n name l arc named. elim (cases_eq s c.loop-d.d) [
-        | inl same ↦ rw same (e.noted t n name (subst (λ (x : ℕ). IsJoinable (half_edges c.args.cut.now.faces)
-            (is_on c.args.cut.now.marks) x t n) same arc)
-            (subst (λ (x : ℕ). IsNameOf (half_edges c.args.cut.now.faces) x t n name) same named))
+        | inl same ↦ rw same (e.noted t n name (rw same at arc) (rw same at named))
         | inr ne ↦ e.kept s t n name arc named (c.loop-d.invariant.all s t n name (omega (arith, l, ne)) arc named)
       ];
       below = e.below c.loop-d.invariant.below;

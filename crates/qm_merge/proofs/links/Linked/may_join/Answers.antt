@@ -1,18 +1,18 @@
-use Rattle.std.proofs.Common.{◌≡◌, Some, sym, ◌∙◌, true, true≢false, arith}
-use Rattle.def_mesh.specs.Darts.{next_of, prev_of, twin_of}
-use Rattle.qm_merge.proofs.Linked.{contrary, far_corner, far_is, has_twin, same_size, read_at}
-use Rattle.{qm_merge.proofs.Rounds.next_is_corner, def_cut.specs.FullCut.is_on, qm_merge.specs.Links.at}
+use Rattle.std.proofs.Common.{◌≡◌, sym, ◌∙◌, refl, true, true≢false, arith}
+use Rattle.def_mesh.specs.Darts.{next_of, prev_of}
+use Rattle.qm_merge.proofs.Linked.{contrary, far_corner, far_is, same_size, read_at}
+use Rattle.{qm_merge.proofs.Rounds.next_is_corner, qm_merge.proofs.Rounds.no_twin, def_cut.specs.FullCut.is_on}
 use Rattle.qm_merge.proofs.links.Linked.may_join.Goals as goal
 
 pub returns-in_default : goal.returns-in_default
 returns-in_default c = let f = c.is_full.ensures in
-    λ t n glued. absurd (has_twin f.laws f.full glued (sym c.twin.ensures.value ∙ c.in_default.is))
+    λ t n glued. absurd (no_twin f.laws f.full {n = 0} c.requires refl (λ k l. absurd (omega (arith, l)))
+    glued (sym c.twin.ensures.value ∙ c.in_default.is))
 
 pub returns-then-not-is_cut : goal.returns-then-not-is_cut
 returns-then-not-is_cut c =
     let f = c.is_full.ensures in
-    let tw : twin_of c.args.self.now.cut.now.faces c.args.s ≡ Some c.in-Some.twin = sym c.in-Some.ensures.value in
-    λ t n glued. absurd (true≢false (sym (far_corner f.laws f.full glued tw).1
+    λ t n glued. absurd (true≢false (sym (far_corner f.laws f.full glued (sym c.in-Some.ensures.value)).1
     ∙ (cc (c.next-end.ensures.value, c.is_cut.ensures, c.if-not-is_cut.true))))
 
 pub round_from-far-requires : goal.round_from-far-requires
@@ -34,7 +34,6 @@ index-requires c =
 pub returns-then-index : goal.returns-then-index
 returns-then-index c =
     let f = c.is_full.ensures in
-    let tw : twin_of c.args.self.now.cut.now.faces c.args.s ≡ Some c.in-Some.twin = sym c.in-Some.ensures.value in
     let round = rw c.next-end.ensures.value at c.round_from-far.ensures in
     let links = c.args.self.now.links.now in
     let fourth = next_is_corner f.laws f.full c.round_from-far.ensures.fourth in
@@ -42,8 +41,8 @@ returns-then-index c =
     (omega (arith, c.args.self.now.tied.linked.longs, fourth.0)) in
     let near = read_at links.long.items c.args.s c.index-2.ensures
     (omega (arith, c.args.self.now.tied.linked.longs, c.requires.0)) in
-    λ t n glued. absurd (c.if-index.true
-    (far ∙ (same_size f.laws f.full glued tw round links c.args.self.now.tied.linked ∙ sym near)))
+    λ t n glued. absurd (c.if-index.true (far ∙ (same_size f.laws f.full glued (sym c.in-Some.ensures.value) round links
+    c.args.self.now.tied.linked ∙ sym near)))
 
 pub is_around-requires-clause-other : goal.is_around-requires-clause-other
 is_around-requires-clause-other c = let f = c.is_full.ensures in
@@ -52,6 +51,6 @@ is_around-requires-clause-other c = let f = c.is_full.ensures in
 pub returns : goal.returns
 returns c =
     let f = c.is_full.ensures in
-    let tw : twin_of c.args.self.now.cut.now.faces c.args.s ≡ Some c.in-Some.twin = sym c.in-Some.ensures.value in
     let round = rw c.next-end.ensures.value at c.round_from-far.ensures in
-    λ t n glued. contrary c.is_around.result (rw (far_is f.laws f.full glued tw round) at c.is_around.ensures)
+    λ t n glued. contrary c.is_around.result
+    (rw (far_is f.laws f.full glued (sym c.in-Some.ensures.value) round) at c.is_around.ensures)
