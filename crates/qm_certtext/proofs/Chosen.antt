@@ -1,8 +1,8 @@
 -- The lists of one line more, and those before and behind the first `#f 3`.
 use Rattle.std.proofs.Common.{rules, Bool, List, None, OnOk, Option, Result, Some, append-nil, arith, false, is_some, ℕ}
-use Rattle.std.proofs.Common.{inl, inr, not, refl, sym, true, ◌&&◌, ◌++◌, ◌+◌, ◌∙◌, [], ap, ◌∷◌, ◌≡◌, length, map, ◌<◌}
-use Rattle.std.proofs.{Common.append_assoc, Common.ap₂, Common.◌||◌, lemmas.List.Concat.flat_map-append}
-use Rattle.std.proofs.lemmas.Bool.{cases_Bool, false≢true, or_parts, and_from, and_parts, or_from}
+use Rattle.std.proofs.Common.{inl, inr, not, refl, sym, true, ◌&&◌, ◌++◌, ◌∙◌, [], ap, ◌∷◌, ◌≡◌, length, map, ◌<◌}
+use Rattle.std.proofs.{Common.append_assoc, Common.◌||◌, lemmas.List.Concat.flat_map-append}
+use Rattle.std.proofs.lemmas.Bool.{cases_Bool, false≢true, or_parts, and_from, or_from}
 use Rattle.std.proofs.lemmas.List.Folds.{list_any-append, list_all-append, list_all-map}
 use Rattle.std.specs.List.{after_first, before_first, flat_map, list_any, list_all}
 use Rattle.def_certtext.specs.Reading.{is_third, length_in, set_in, set_up_in, vertex_in, vertex_up_in, certificates_by}
@@ -31,12 +31,8 @@ module _ {X : Type 0} (p : X → Bool) where
   split_there (x ∷ xs) ys some = elim (cases_Bool (p x)) [
     | inl is ↦ rw is (refl, refl)
     | inr other ↦
-        let rest = split_there xs ys (rw other at some) in
-        let (one, two) = split_behind x (xs ++ ys) other in
-        let (short, back) = split_behind x xs other in (
-          one ∙ ap (λ (zs : List X). x ∷ zs) rest.0 ∙ sym short,
-          two ∙ rest.1 ∙ ap (λ (zs : List X). zs ++ ys) (sym back),
-        )
+        let whole = split_behind x (xs ++ ys) other in
+        grind (arith, split_there xs ys (rw other at some), whole, split_behind x xs other)
   ]
 
   -- Where none passes before it.
@@ -45,9 +41,7 @@ module _ {X : Type 0} (p : X → Bool) where
   split_one [] y ys none is = rw is (refl, refl)
   split_one (x ∷ xs) y ys none is =
       let parts = or_parts (p x) _ none in
-      let rest = split_one xs y ys parts.1 is in
-      let (one, two) = split_behind x (xs ++ y ∷ ys) parts.0 in
-      (one ∙ ap (λ (zs : List X). x ∷ zs) rest.0, two ∙ rest.1)
+      grind (arith, split_one xs y ys parts.1 is, split_behind x (xs ++ y ∷ ys) parts.0)
 
 -- One line more.
 more : {Y : Type 0} (f : CertLine → List Y) (old new : List Y) (said : List CertLine) (line : CertLine) → old
@@ -63,9 +57,9 @@ pub record Adds (old new : Parts) (line : CertLine) : Type 0 where
   pub set_ups : new.set_ups.items ≡ old.set_ups.items ++ set_up_in line
 
 -- So the lists are those of one line more.
-pub holds_more : (old new : Parts) (said : List CertLine) (line : CertLine) → Adds old new line → Holds old said
+pub holds_more : {old new : Parts} {said : List CertLine} {line : CertLine} → Adds old new line → Holds old said
     → Holds new (said ++ line ∷ [])
-holds_more old new said line adds holds = search (rules, more)
+holds_more adds holds = search (rules, more)
 
 -- Parts with nothing in them hold the lists of no line.
 pub holds_none : {parts : Parts} → parts.lengths.items ≡ [] → (parts.vertices.items ≡ [])
@@ -81,39 +75,31 @@ pub takes_both : (rising : Rising) (old new : Found) (line : CertLine) → (risi
     → TakesBoth old new line → TakesLine rising old new line
 takes_both rising old new h1 h2 = search rules
 
+-- Whether a line starts the certificate for floor 3.
+abbrev pub starts : (first : Option Parts) (line : CertLine) → Bool
+starts first line = not (is_some first) && is_third line
+
 -- The lines before the first `#f 3` stay, and the next are those of another certificate.
-pub takes_third : (old new : Found) (line : CertLine) → old.first ≡ None → is_third line ≡ true
-    → new.first ≡ Some old.last → Holds new.last [] → TakesBoth old new line
-takes_third old new line none third first empty said holds = search (rules, split_one, list_any-append)
+pub takes_third : (old new : Found) (line : CertLine) → starts old.first line ≡ true → new.first ≡ Some old.last
+    → Holds new.last [] → TakesBoth old new line
+takes_third old new line start first empty said holds =
+    let both : (old.first ≡ None) × (is_third line ≡ true) = grind (arith, start) in
+    search (rules, split_one, list_any-append)
 
 -- Any other line is one of the last certificate.
-pub takes_other : (old new : Found) (line : CertLine) → (old.first ≡ None → is_third line ≡ false)
-    → new.first ≡ old.first → Adds old.last new.last line → TakesBoth old new line
-takes_other old new line other first adds said holds = by_first old.first refl holds
+pub takes_other : (old new : Found) (line : CertLine) → starts old.first line ≡ false → new.first ≡ old.first
+    → Adds old.last new.last line → TakesBoth old new line
+takes_other old new line start first adds said holds = by_first old.first refl holds
   where
     longer : list_any is_third (said ++ line ∷ []) ≡ (list_any is_third said || (is_third line || false))
     longer = list_any-append is_third said (line ∷ [])
 
     by_first : (o : Option Parts) → old.first ≡ o → HoldBoth o old.last said
         → HoldBoth new.first new.last (said ++ line ∷ [])
-    by_first None is none = rw (first ∙ is) (longer ∙ rw (none.0, other is) refl, holds_more _ _ said line adds none.1)
-    by_first (Some prefix) is both = let split = split_there is_third said (line ∷ []) both.0 in
-        rw (first ∙ is) (
-          longer ∙ rw both.0 refl,
-          rw split.0 both.1,
-          rw split.1 (holds_more _ _ (after_first is_third said) line adds both.2),
-        )
-
--- Whether a line starts the certificate for floor 3.
-pub starts : (first : Option Parts) (line : CertLine) → (not (is_some first) && is_third line) ≡ true → (first ≡ None)
-    × (is_third line ≡ true)
-starts None line is = (refl, is)
-starts (Some prefix) line is = absurd (false≢true is)
-
-pub starts_not : (first : Option Parts) (line : CertLine) → (not (is_some first) && is_third line) ≡ false
-    → first ≡ None → is_third line ≡ false
-starts_not None line is none = is
-starts_not (Some prefix) line is none = absurd cc
+    by_first None is none = rw (first ∙ is) (grind (arith, longer, none.0, start, is), holds_more adds none.1)
+    by_first (Some prefix) is (some, before, after) =
+        let split = split_there is_third said (line ∷ []) some in
+        rw (first ∙ is) (grind (arith, longer, some), rw split.0 before, rw split.1 (holds_more adds after))
 
 -- Where memory was found for the line.
 pub added_ok : {T E P : Type 0} (r : Result T E) (old new : Parts) (line : CertLine)
@@ -132,15 +118,10 @@ joins : (line : CertLine) (said : List CertLine) → is_rise line ≡ false
 joins (rise_line r) said plain = absurd cc
 joins _ said plain = refl
 
--- A rise in front of such lines is a part of its own.
-alone_in_front : (rise : Rise) (more : List CertLine) → begins_plain more ≡ true
-    → put_rise rise (parts_of more) ≡ record { said = []; rises = rise ∷ [] } ∷ parts_of more
-alone_in_front rise more h1 = search rules
-
--- So are rises one behind another.
+-- Rises in front of such lines are a part of their own.
 rises_part : (rise : Rise) (rises : List Rise) (more : List CertLine) → begins_plain more ≡ true
     → parts_of (map rise_line (rise ∷ rises) ++ more) ≡ record { said = []; rises = rise ∷ rises } ∷ parts_of more
-rises_part rise [] more plain = alone_in_front rise more plain
+rises_part rise [] more plain = search rules
 rises_part rise (next ∷ rises) more plain = ap (put_rise rise) (rises_part next rises more plain)
 
 -- With the lines in front of them they are a part.
@@ -207,10 +188,9 @@ rounds_back front plain adds (raised first cert) able = absurd (cc able.0)
 rounds_back front plain adds (risen first rises after) able =
     let lists = adds (said_by first) ∙ lists_back first able.1.ups in
     let behind = rounds_back [] refl (λ said. refl) after able.5 in
-    ap (λ (ls : List CertLine). certificates_by (parts_of ls))
-    (sym (append_assoc front (said_by first) (map rise_line rises ++ chosen_lines after)))
-    ∙ round_first (front ++ said_by first) rises (chosen_lines after) (list_any-append is_rise front (said_by first)
-    ∙ or_from _ _ plain (no_rise first)) able.3 (plain_first after able.5) ∙ (λ i. risen (lists i) rises (behind i))
+    rw (← append_assoc front (said_by first) (map rise_line rises ++ chosen_lines after))
+    (round_first (front ++ said_by first) rises (chosen_lines after) (list_any-append is_rise front (said_by first)
+    ∙ or_from _ _ plain (no_rise first)) able.3 (plain_first after able.5) ∙ (λ i. risen (lists i) rises (behind i)))
 
 -- The lines of certificates say these.
 pub chosen_certs : (rising : Rising) (certificates : Certificates) → AreWritable rising certificates
@@ -228,9 +208,7 @@ may_more rising line h1 = search rules
 all_more : (rising : Rising) (said : List CertLine) → list_all (may_stand Never) said ≡ true
     → list_all (may_stand rising) said ≡ true
 all_more rising [] all = refl
-all_more rising (line ∷ said) all =
-    let parts = and_parts (may_stand Never line) _ all in
-    and_from _ _ (may_more rising line parts.0) (all_more rising said parts.1)
+all_more rising (line ∷ said) all = grind (arith, may_more rising line, all_more rising said, all)
 
 -- The lines of certificates may stand.
 rounds_allowed : (certificates : Certificates) → AreWritable Rounds certificates
@@ -278,14 +256,8 @@ takes_plain old ended new line plain ends rounds rises adds said hold =
     record {
       lines = end.lines ++ line ∷ [];
       plain = list_any-append is_rise end.lines (line ∷ []) ∙ or_from _ _ end.plain (or_from _ _ plain refl);
-      holds = holds_more ended.last new.last end.lines line adds end.holds;
-      same = λ more.
-          let behind : (end.lines ++ line ∷ []) ++ (map rise_line new.rises.items ++ more) ≡ end.lines ++ (line ∷ more)
-          = ap (λ (rs : List Rise). (end.lines ++ line ∷ []) ++ (map rise_line rs ++ more)) (rises ∙ end.none)
-          ∙ append_assoc end.lines (line ∷ []) more in
-          ap (λ (ls : List CertLine). certificates_by (parts_of ls)) (append_assoc said (line ∷ []) more)
-          ∙ end.same (line ∷ more) (rw plain refl) ∙ ap₂ (λ (rs : List Round) (ls : List CertLine). risen_by rs
-          (certificates_by (parts_of ls))) (sym rounds) (sym behind);
+      holds = holds_more adds end.holds;
+      same = λ more. rw (rounds, rises, end.none) (simp append_assoc (end.same (line ∷ more) (rw plain refl)));
     }
 
 -- At the end of all lines the certificates are those of the rounds and the last.
@@ -294,9 +266,5 @@ pub rounds_are : (old ended : Found) (last : Lists) → EndsRound old ended → 
     → risen_by ended.rounds.items (alone last) ≡ certificates_in Rounds said
 rounds_are old ended last ends is said hold =
     let end = ends said hold in
-    let lists : last ≡ lists_in end.lines = is ∙ sym (held ended.last end.lines end.holds) in
-    let all : certificates_by (parts_of said) ≡ risen_by ended.rounds.items (certificates_by (parts_of end.lines)) =
-    ap (λ (ls : List CertLine). certificates_by (parts_of ls)) (sym (append-nil said)) ∙ end.same [] refl
-    ∙ ap (λ (ls : List CertLine). risen_by ended.rounds.items (certificates_by (parts_of ls))) (append-nil end.lines) in
-    ap (λ (l : Lists). risen_by ended.rounds.items (alone l)) lists
-    ∙ sym (ap (risen_by ended.rounds.items) (last_alone end.lines end.plain)) ∙ sym all
+    let same = simp append-nil at (end.same [] refl) in
+    rw (same, last_alone end.lines end.plain, held ended.last end.lines end.holds, is) refl

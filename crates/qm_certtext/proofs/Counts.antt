@@ -1,19 +1,18 @@
 -- A line of one kind is none of another.
-use Rattle.std.proofs.Common.{rules, arith, drop, eqb, get_or, inl, inr, ltb, pos, true, ℕ, ◌+◌, ◌<◌, ◌^◌, ◌∷◌, ◌≡◌, ap}
-use Rattle.std.proofs.Common.{◌≤◌, Bool, List, None, Option, Some, cond, false, length, negsuc, ap₂, map, min, not}
-use Rattle.std.proofs.Common.{refl, suc, sym, take, zero, ◌&&◌, ◌++◌, [], ℤ, ◌-◌, ◌∙◌}
-use Rattle.std.proofs.lemmas.Bool.{and_from, and_parts, eqb-true, false≢true, lt-ltb, and_cases, and_right, cases_Bool}
-use Rattle.std.proofs.lemmas.Bool.{true≢false, eq-eqb, eqb-false, le-leb, ltb-false, not-true, ne_eqb}
+use Rattle.std.proofs.Common.{rules, arith, drop, eqb, get_or, ltb, pos, true, ℕ, ◌+◌, ◌<◌, ◌^◌, ◌∷◌, ◌≡◌, ap, ◌≤◌}
+use Rattle.std.proofs.Common.{Bool, List, None, Option, Some, cond, false, length, negsuc, ap₂, map, min, not, refl}
+use Rattle.std.proofs.Common.{suc, sym, take, zero, ◌&&◌, ◌++◌, [], ℤ, ◌-◌, ◌∙◌}
+use Rattle.std.proofs.lemmas.Bool.{and_from, and_parts, eqb-true, false≢true, lt-ltb, and_right, cases_Bool, eqb-false}
 use Rattle.std.proofs.lemmas.Fmt.{decimal-digits_value, decimal_injective, decimal_nonempty, first_decimal}
-use Rattle.std.proofs.lemmas.Str.Parse.{IsDigitsTest, IsNumeralModel, numerals_by_fold}
-use Rattle.std.proofs.lemmas.List.{drop_at, take-append-drop, take_at}
-use Rattle.std.specs.{Prelude.decimal, Prelude.unsigned_abs, Int.Digits.number_from_digits_after, List.position_or_len}
-use Rattle.std.specs.{List.list_all, Char.is_ascii_digit, Fmt.digits, Fmt.signed_decimal}
-use Rattle.def_certtext.specs.{declared.certs.Rising.TheVariants.Rounds, declared.certs.Rising.Rising, Reading.is_small}
-use Rattle.def_certtext.specs.{Reading.may_tell, declared.certs.Rise.Rise}
-use Rattle.def_text.specs.{Types.Word, Digits.is_number, Digits.number_written}
 use Rattle.qm_dec.proofs.ReadBack.{decimal_digits, decimal_number, digit_other, digits_fail, first_at, first_passes}
-use Rattle.qm_scan.proofs.Numbers.{number_all}
+use Rattle.std.proofs.lemmas.{Bool.le-leb, Bool.not-true, Bool.ne_eqb, Bool.Decides.nat_tests, Str.Parse.IsDigitsTest}
+use Rattle.std.proofs.lemmas.{Str.Parse.IsNumeralModel, Str.Parse.numerals_by_fold, List.drop_at, List.take-append-drop}
+use Rattle.def_certtext.specs.declared.{certs.Rising.TheVariants.Rounds, certs.Rising.Rising, certs.Rise.Rise}
+use Rattle.{std.specs.Int.Digits.number_from_digits_after, def_text.specs.Digits.number_written, std.specs.Fmt.digits}
+use Rattle.{def_certtext.specs.Reading.is_small, def_certtext.specs.Reading.may_tell, qm_scan.proofs.Numbers.number_all}
+use Rattle.{def_text.specs.Digits.is_number, std.proofs.lemmas.List.take_at, std.specs.Prelude.unsigned_abs}
+use Rattle.{std.specs.List.position_or_len, std.specs.Char.is_ascii_digit, std.specs.Fmt.signed_decimal}
+use Rattle.{std.specs.Prelude.decimal, def_text.specs.Types.Word, std.specs.List.list_all}
 
 -- So are the numbers of a rise, which a line may tell in rounds alone.
 pub rise_low : (rising : Rising) (rise : Rise) → may_tell rising rise ≡ true → (rise.arc < 2 ^ 32) × (rise.floor ≤ 3)
@@ -46,11 +45,7 @@ pub written : (word : Word) → is_number word ≡ true → (ltb 1 (length word)
 written word is lead small =
     let parts = and_parts (not (eqb (length word) 0)) _ (sym (number_all word) ∙ is) in
     let some : 0 < length word = omega (arith, eqb-false (length word) 0 (not-true _ parts.0)) in
-    sym (decimal-digits_value numeral word parts.1 some (λ zero_first.
-    elim (and_cases (ltb 1 (length word)) (eqb (get_or word 0 0) 48) lead) [
-      | inl short ↦ omega (arith, ltb-false 1 (length word) short)
-      | inr other ↦ absurd (true≢false (sym (eq-eqb _ 48 zero_first) ∙ other))
-    ]) small)
+    sym (decimal-digits_value numeral word parts.1 some (λ zero. grind (arith, nat_tests, lead, zero)) small)
 
 -- A printed number is a number, without a leading zero.
 pub decimal_is_number : (n : ℕ) → n < 2 ^ 64 → is_number (decimal n) ≡ true
@@ -71,13 +66,8 @@ no_count word greatest n o few low is read = search (rules, decimal_is_number, d
 pub count_read : (word : Word) (greatest n : ℕ) → greatest < 10 ^ 18 → n ≤ greatest
     → (ltb 1 (length word) && eqb (get_or word 0 0) 48) ≡ false
     → Some n ≡ cond (is_number word) (Some (min (number_written word) (2 ^ 64 - 1))) None → word ≡ decimal n
-count_read word greatest n few low lead read = elim (cases_Bool (is_number word)) [
-  | inl is ↦
-      let value : n ≡ min (number_written word) (2 ^ 64 - 1) = cc (rw is at read) in
-      let whole : number_written word ≡ n = omega arith in
-      written word is lead (omega arith) ∙ ap decimal whole
-  | inr isnt ↦ cc (rw isnt at read)
-]
+count_read word greatest n few low lead read =
+    grind (arith, cases_Bool (is_number word), written word, read, lead)
 
 -- And nowhere else: not where a zero leads.
 pub count_lead : (word : Word) (greatest n : ℕ) → greatest < 10 ^ 18 → n ≤ greatest
@@ -86,10 +76,7 @@ count_lead word greatest n few low lead is = search (rules, no_lead)
 
 -- A number with a minus is below 0.
 no_minus : (n : ℕ) (digits : Word) → n < 2 ^ 64 → 45 ∷ digits ≡ decimal n → ⊥
-no_minus n digits low is =
-    let minus : is_ascii_digit 45 ≡ true = (and_parts (is_ascii_digit 45) (list_all is_ascii_digit digits)
-    (ap (list_all is_ascii_digit) is ∙ decimal_digits n low)).0 in
-    false≢true minus
+no_minus n digits low is = grind (arith, decimal_digits n low, ap (list_all is_ascii_digit) is)
 
 pub negative_form : (z : ℤ) (digits : Word) → unsigned_abs z < 10 ^ 18 → 45 ∷ digits ≡ signed_decimal z
     → (k : ℕ) × (z ≡ negsuc k) × (digits ≡ decimal (suc k)) × (suc k < 10 ^ 18)
@@ -146,21 +133,15 @@ module _ {text prefix behind : Word} {i : ℕ} (place : i ≡ position_or_len (�
       → (is_small z up ≡ true) × (text ≡ signed_decimal z ++ 32 ∷ decimal up)
   both_read rest z up some is low written_so few ups = (
     and_from _ _ (lt-ltb _ _ low) (lt-ltb _ _ (omega arith)),
-    sym (take-append-drop i text) ∙ ap₂ ◌++◌ (sym before ∙ written_so) (sym back ∙ begins
+    sym (take-append-drop i text) ∙ ap₂ ◌++◌ (sym before ∙ written_so)
+        (sym back ∙ begins behind (back ∙ ap (λ (k : ℕ). drop k text) place) some
         ∙ ap (λ (w : Word). 32 ∷ w) (sym is ∙ ups)),
   )
     where
-      first_space : (x : ℕ) (xs : Word) → x ∷ xs ≡ drop (position_or_len (λ b. eqb b 32) text) text → eqb x 32 ≡ true
-      first_space x xs same = ap (λ (w : Word). eqb (get_or w 0 0) 32) same ∙ first_passes (λ b. eqb b 32) text
-          (rw (← same) (omega arith))
-
-      by_behind : (b : Word) → behind ≡ b → 0 < length b → b ≡ 32 ∷ drop 1 b
-      by_behind [] same none = absurd (omega arith)
-      by_behind (x ∷ xs) same more = ap (λ (y : ℕ). y ∷ xs)
-          (eqb-true x 32 (first_space x xs (sym same ∙ back ∙ ap (λ (k : ℕ). drop k text) place)))
-
-      begins : behind ≡ 32 ∷ drop 1 behind
-      begins = by_behind behind refl some
+      begins : (b : Word) → b ≡ drop (position_or_len (λ b. eqb b 32) text) text → 0 < length b → b ≡ 32 ∷ drop 1 b
+      begins [] same none = absurd (omega arith)
+      begins (x ∷ xs) same more = ap (λ (y : ℕ). y ∷ xs) (eqb-true x 32 (ap (λ (w : Word). eqb (get_or w 0 0) 32) same
+          ∙ first_passes (λ b. eqb b 32) text (rw (← same) (omega arith))))
 
   -- A rise is a number from 1 and a floor.
   pub rise_parts : (rise : Rise) → may_tell Rounds rise ≡ true → text ≡ decimal (rise.arc + 1) ++ 32 ∷ decimal

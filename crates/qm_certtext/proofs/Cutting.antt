@@ -1,6 +1,6 @@
 -- A head line is cut into its words in one way.
 use Rattle.std.proofs.Common.{rules, Bool, MatchOption, None, Option, Some, append_assoc, arith, codes, false, get_or}
-use Rattle.std.proofs.Common.{length, [], drop, eqb, inl, inr, refl, sym, take, true, ◌++◌, ◌+◌, ◌∙◌, ◌∷◌, ◌≡◌, ℕ, ap}
+use Rattle.std.proofs.Common.{length, [], drop, eqb, inl, inr, refl, sym, take, true, ◌++◌, ◌∙◌, ◌∷◌, ◌≡◌, ℕ, ap}
 use Rattle.std.proofs.{Common.◌≤◌, lemmas.Bool.cases_Bool, lemmas.Bool.false≢true, lemmas.List.Folds.list_all-append}
 use Rattle.std.proofs.lemmas.List.{append_cancel_left, drop_at, take-append-drop, take_at}
 use Rattle.std.specs.{Char.is_ascii_digit, List.list_all, List.position_or_len, Prelude.decimal, Str.bytes_eq}
@@ -23,12 +23,10 @@ not_stripped prefix text rest other is = search (rules, take_at)
 -- What stands before the first space has none.
 pub prefix_bare : (text : Word) → is_bare (take (position_or_len (λ b. eqb b 32) text) text) ≡ true
 prefix_bare [] = refl
-prefix_bare (x ∷ xs) =
-    elim (cases_Bool (eqb x 32)) [ inl is ↦ rw is refl | inr other ↦ rw other (step (prefix_bare xs) other) ]
-  where
-    step : is_bare (take (position_or_len (λ b. eqb b 32) xs) xs) ≡ true → eqb x 32 ≡ false
-        → is_bare (take (1 + position_or_len (λ b. eqb b 32) xs) (x ∷ xs)) ≡ true
-    step rest other = search rules
+prefix_bare (x ∷ xs) = elim (cases_Bool (eqb x 32)) [
+  | inl is ↦ rw is refl
+  | inr other ↦ let rest = prefix_bare xs in rw other (search rules)
+]
 
 -- The word before a mark that begins with a space is the prefix.
 place_of : (word mark rest : Word) → is_bare word ≡ true → get_or mark 0 0 ≡ 32
@@ -59,17 +57,15 @@ abbrev weight_mark : Word
 weight_mark = codes " weight "
 
 -- What stands behind the prefix of a head line.
-behind_prefix : (prefix line rest scale floor weight : Word) → line ≡ prefix ++ rest
+behind_prefix : {prefix line rest scale floor weight : Word} → line ≡ prefix ++ rest
     → IsCut prefix line scale floor weight → rest ≡ scale ++ (floor_mark ++ (floor ++ (weight_mark ++ weight)))
-behind_prefix prefix line rest scale floor weight is cut = append_cancel_left prefix _ _ (sym is ∙ cut.written)
+behind_prefix {prefix} is cut = append_cancel_left prefix _ _ (sym is ∙ cut.written)
 
 -- A line has one cut.
-one_cut : (prefix line a b c d e f : Word) → IsCut prefix line a b c → IsCut prefix line d e f → (a ≡ d) × (b ≡ e)
+one_cut : {prefix line a b c d e f : Word} → IsCut prefix line a b c → IsCut prefix line d e f → (a ≡ d) × (b ≡ e)
     × (c ≡ f)
-one_cut prefix line a b c d e f one two =
-    let scales = one_word a d (b ++ (weight_mark ++ c)) (e ++ (weight_mark ++ f)) floor_mark one.scale_bare
-    two.scale_bare refl
-    (behind_prefix prefix line (a ++ (floor_mark ++ (b ++ (weight_mark ++ c)))) d e f one.written two) in
+one_cut {a} {b} {c} {d} {e} {f} one two =
+    let scales = one_word a d _ _ floor_mark one.scale_bare two.scale_bare refl (behind_prefix one.written two) in
     let floors = one_word b e c f weight_mark one.floor_bare two.floor_bare refl scales.1 in
     (scales.0, floors.0, floors.1)
 
@@ -99,35 +95,33 @@ asked_cut prefix line settings auto range is = record {
 }
 
 -- Its words are those of the settings.
-pub asked_words : (prefix line scale floor weight : Word) (settings : Settings) (auto : Bool)
+pub asked_words : {prefix line scale floor weight : Word} {settings : Settings} {auto : Bool}
     → IsCut prefix line scale floor weight
     → AreInRange settings auto → line ≡ asked_line prefix settings auto → AreWordsOf scale floor weight settings auto
-asked_words prefix line scale floor weight settings auto cut range is =
-    let same = one_cut prefix line scale floor weight _ _ _ cut (asked_cut prefix line settings auto range is) in
+asked_words {prefix} {line} {settings} {auto} cut range is =
+    let same = one_cut cut (asked_cut prefix line settings auto range is) in
     record { scaled = same.0; bounded = same.1; weighed = same.2; in_range = range }
 
-words_asked : (prefix line scale floor weight : Word) (settings : Settings) (auto : Bool) → IsCut prefix line scale
+words_asked : {prefix line scale floor weight : Word} (settings : Settings) (auto : Bool) → IsCut prefix line scale
     floor weight → AreWordsOf scale floor weight settings auto → line ≡ asked_line prefix settings auto
-words_asked prefix line scale floor weight settings auto cut words = search (rules, nested)
+words_asked {prefix} settings auto cut words = search (rules, nested)
 
-pub no_floor : (prefix line rest first more : Word) → line ≡ prefix ++ rest → is_bare first ≡ true
+pub no_floor : {prefix line rest : Word} → line ≡ prefix ++ rest → (first more : Word) → is_bare first ≡ true
     → rest ≡ first ++ (floor_mark ++ more)
     → ((word last : Word) → is_bare word ≡ true → more ≡ word ++ (weight_mark ++ last) → ⊥)
     → (scale floor weight : Word) → IsCut prefix line scale floor weight → ⊥
-no_floor prefix line rest first more is bare_is split none scale floor weight cut =
-    let one = one_word first scale more (floor ++ (weight_mark ++ weight)) floor_mark bare_is cut.scale_bare refl
-    (sym split ∙ behind_prefix prefix line rest scale floor weight is cut) in
+no_floor is first more bare split none scale floor weight cut =
+    let one = one_word first scale more _ floor_mark bare cut.scale_bare refl (sym split ∙ behind_prefix is cut) in
     none floor weight cut.floor_bare one.1
 
 -- The settings of a cut line are those of its words.
-pub asked_read : (prefix line scale floor weight : Word) (o : Option Asked) → IsCut prefix line scale floor weight
+pub asked_read : {prefix line scale floor weight : Word} (o : Option Asked) → IsCut prefix line scale floor weight
     → MatchOption o ((settings : Settings) (auto : Bool) → AreWordsOf scale floor weight settings auto → ⊥)
     (λ asked. AreWordsOf scale floor weight asked.settings asked.auto)
     → MatchOption o ((settings : Settings) (auto : Bool) → AreInRange settings auto → line ≡ asked_line prefix settings
     auto → ⊥) (λ asked. AreInRange asked.settings asked.auto × (line ≡ asked_line prefix asked.settings asked.auto))
-asked_read prefix line scale floor weight None cut none =
-    λ settings auto range is. none settings auto (asked_words prefix line scale floor weight settings auto cut range is)
-asked_read prefix line scale floor weight (Some asked) cut words = search (rules, words_asked)
+asked_read None cut none = λ settings auto range is. none settings auto (asked_words cut range is)
+asked_read (Some asked) cut words = search (rules, words_asked)
 
 -- Behind the prefix of a head line they are those of the head line.
 pub head_read : (line : Word) (o : Option Asked) → MatchOption o ((settings : Settings) (auto : Bool) → AreInRange

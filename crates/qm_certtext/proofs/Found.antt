@@ -1,8 +1,8 @@
 -- The last line that begins with a prefix, found line after line.
-use Rattle.std.proofs.Common.{rules, None, Option, Some, arith, if◌then◌else◌, inl, length, slice_index_or, []}
-use Rattle.std.proofs.Common.{ap, drop, inr, sym, take, true, ℕ, ◌+◌, ◌-◌, ◌<◌, ◌∙◌, ◌≡◌, ◌≤◌, Bool, List, filter, zero}
+use Rattle.std.proofs.Common.{rules, None, Option, Some, arith, if◌then◌else◌, length, slice_index_or, []}
+use Rattle.std.proofs.Common.{ap, drop, sym, take, true, ℕ, ◌+◌, ◌-◌, ◌<◌, ◌∙◌, ◌≡◌, Bool, List, filter, zero}
 use Rattle.std.proofs.Common.{◌++◌, map, suc, ◌∷◌, length-drop, ◌^◌}
-use Rattle.std.proofs.{lemmas.Bool.cases_Bool, lemmas.Bool.and_parts, lemmas.List.Elements.filter-append}
+use Rattle.std.proofs.{lemmas.Bool.cases_Bool, lemmas.List.Elements.filter-append}
 use Rattle.std.proofs.lemmas.List.{get_or-take, length-take-le, take_more, drop-drop, get_or-drop}
 use Rattle.std.specs.{List.starts_with, List.list_all, Prelude.IfSome, Prelude.nat_eq}
 use Rattle.qm_certtext.specs.{Heads.IsFoundIn, declared.last.HeadAt.HeadAt, declared.parts.Found.Found}
@@ -14,12 +14,11 @@ use Rattle.def_io.specs.{Lines.lines_of, Lines.tail_of, Bytes.Bytes, Bytes.Lines
 use Rattle.{def_certtext.specs.CertLines.line_text, qm_io.proofs.Cuts.first_lines}
 use Rattle.{qm_io.proofs.Cuts.rest_is, qm_io.proofs.Cuts.last_lines}
 
--- Where a line was found, it begins within the text, and the lines before and behind its first byte are so.
-pub found_kept : (prefix bytes : Bytes) (n : ℕ) (found : Option HeadAt) → IsFoundIn prefix bytes n found
-    → IfSome found (λ head. head.at ≤ length bytes) × IfSome found (λ head. lines_of (take head.at bytes) ≡ take
-    head.line (lines_of bytes)) × IfSome found (λ head. drop head.at bytes ≡ tail_of head.line bytes)
-found_kept prefix bytes n None is = (tt, tt, tt)
-found_kept prefix bytes n (Some head) is = (is.within, is.old, is.written)
+-- Where a line was found, the lines before its first byte are those before it.
+pub found_old : (prefix bytes : Bytes) (n : ℕ) (found : Option HeadAt) → IsFoundIn prefix bytes n found
+    → IfSome found (λ head. lines_of (take head.at bytes) ≡ take head.line (lines_of bytes))
+found_old prefix bytes n None is = tt
+found_old prefix bytes n (Some head) is = is.old
 
 -- A line that begins so is the last one.
 found_next : (prefix bytes rest line : Bytes) (i at : ℕ) → rest ≡ tail_of i bytes → line
@@ -47,16 +46,12 @@ pub said_at : (rising : Rising) (behind : Lines) (said : List CertLine)
 said_at rising [] said texts all j low is = absurd (omega arith)
 said_at rising (line ∷ behind) [] texts all zero low is = cc (rw is at texts)
 said_at rising (line ∷ behind) (one ∷ more) texts all zero low is = search rules
-said_at rising (line ∷ behind) [] texts all (suc j) low is = elim (cases_Bool (is_hash_line line)) [
-  | inl marked ↦ cc (rw marked at texts)
-  | inr other ↦ said_at rising behind [] (rw other at texts) all j (omega arith) is
-]
-said_at rising (line ∷ behind) (one ∷ more) texts all (suc j) low is = elim (cases_Bool (is_hash_line line)) [
-  | inl marked ↦
-      let same : line ∷ filter is_hash_line behind ≡ line_text one ∷ map line_text more = rw marked at texts in
-      said_at rising behind more (cc) (and_parts (may_stand rising one) _ all).1 j (omega arith) is
-  | inr other ↦ said_at rising behind (one ∷ more) (rw other at texts) all j (omega arith) is
-]
+said_at rising (line ∷ behind) [] texts all (suc j) low is =
+    grind (arith, cases_Bool (is_hash_line line), texts, said_at rising behind [], is)
+said_at rising (line ∷ behind) (one ∷ more) texts all (suc j) low is =
+    let behind_it = said_at rising behind more in
+    let all_of_it = said_at rising behind (one ∷ more) in
+    grind (arith, cases_Bool (is_hash_line line), texts, all, behind_it, all_of_it, is)
 
 -- Where no line was read, nothing is said.
 pub hold_none : (rising : Rising) (found : Found) → found.first ≡ None

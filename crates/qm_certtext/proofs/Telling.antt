@@ -2,18 +2,17 @@
 use Rattle.std.proofs.Common.{rules, append-nil, arith, false, filter, get_or, length, take-append-drop, unsigned_abs}
 use Rattle.std.proofs.Common.{Bool, List, [], ap₂, drop, map, pos, refl, take, true, ◌++◌, ◌+◌, ◌<◌, ◌^◌, ◌∙◌, ◌∷◌, ◌≡◌}
 use Rattle.std.proofs.Common.{ap, ℕ, ℤ, zero, suc}
-use Rattle.std.proofs.{lemmas.List.Elements.All-map, lemmas.List.Folds.list_any_none}
-use Rattle.std.proofs.{lemmas.List.Concat.flat_map-append, lemmas.List.Folds.list_any-append, lemmas.List.length-drop}
-use Rattle.std.proofs.{lemmas.List.length-take-le, lemmas.Bool.and_parts, lemmas.Bool.or_from}
-use Rattle.std.proofs.{lemmas.Fmt.decimal_injective, lemmas.Fmt.signed_decimal_injective}
-use Rattle.std.specs.{Fmt.signed_decimal, List.flat_map, List.list_all, List.list_any, List.All, Prelude.decimal}
 use Rattle.def_certtext.specs.CertLines.{HasUps, Lists, dual_lines, line_text, said_by}
 use Rattle.def_certtext.specs.Reading.{is_hash_line, is_small, length_in, may_stand, set_up_in, vertex_in, vertex_up_in}
-use Rattle.def_certtext.specs.Reading.{is_third, lists_in, set_in}
 use Rattle.def_certtext.specs.declared.CertLine.TheVariants.{Floor, Length, Rise as rise_line, Set, Vertex}
-use Rattle.def_certtext.specs.{declared.CertLine.CertLine, declared.certs.Rising.Rising}
-use Rattle.qm_certtext.proofs.Counts.{small_parts, split_once, rise_small}
-use Rattle.{qm_certtext.specs.Parts.is_rise, def_text.specs.Types.Word}
+use Rattle.std.proofs.{lemmas.List.Elements.All-map, lemmas.List.Folds.list_any_none, lemmas.List.Folds.list_any-append}
+use Rattle.std.proofs.{lemmas.List.Concat.flat_map-append, lemmas.List.length-drop, lemmas.List.length-take-le}
+use Rattle.std.proofs.{lemmas.Bool.or_from, lemmas.Fmt.decimal_injective}
+use Rattle.std.specs.{Fmt.signed_decimal, List.flat_map, List.list_all, List.list_any, List.All, Prelude.decimal}
+use Rattle.def_certtext.specs.{Reading.is_third, Reading.lists_in, Reading.set_in, declared.CertLine.CertLine}
+use Rattle.{def_certtext.specs.declared.certs.Rising.Rising, std.proofs.lemmas.Fmt.signed_decimal_injective}
+use Rattle.{qm_certtext.proofs.Counts.small_parts, qm_certtext.proofs.Counts.split_once, def_text.specs.Types.Word}
+use Rattle.{qm_certtext.proofs.Counts.rise_small, qm_certtext.specs.Parts.is_rise}
 
 one_number : (y z : ℤ) → unsigned_abs y < 10 ^ 18 → unsigned_abs z < 10 ^ 18 → signed_decimal y ≡ signed_decimal z
     → y ≡ z
@@ -35,11 +34,9 @@ pub one_line : (rising : Rising) (a b : CertLine) → may_stand rising a ≡ tru
     → line_text a ≡ line_text b → a ≡ b
 one_line rising (Length m) (Length n) p q same = search (rules, decimal_injective)
 one_line rising (Vertex y u) (Vertex z v) p q same =
-    let both = same_dual (signed_decimal y ++ 32 ∷ decimal u) y z u v p q refl (ap (drop 3) same) in
-    λ i. Vertex (both.0 i) (both.1 i)
+    grind (arith, same_dual (signed_decimal y ++ 32 ∷ decimal u) y z u v p q refl (ap (drop 3) same))
 one_line rising (Set y u) (Set z v) p q same =
-    let both = same_dual (signed_decimal y ++ 32 ∷ decimal u) y z u v p q refl (ap (drop 3) same) in
-    λ i. Set (both.0 i) (both.1 i)
+    grind (arith, same_dual (signed_decimal y ++ 32 ∷ decimal u) y z u v p q refl (ap (drop 3) same))
 one_line rising (Floor f) (Floor g) p q same = search (rules, decimal_injective)
 one_line rising (rise_line r) (rise_line s) p q same =
     let both = same_dual (decimal (r.arc + 1) ++ 32 ∷ decimal r.floor) (pos (r.arc + 1)) (pos (s.arc + 1)) r.floor
@@ -54,11 +51,7 @@ pub one_list : (rising : Rising) (said other : List CertLine) → list_all (may_
     → list_all (may_stand rising) other ≡ true → map line_text said ≡ map line_text other → said ≡ other
 one_list rising [] [] p q same = refl
 one_list rising (a ∷ said) (b ∷ other) p q same =
-    let pa = and_parts (may_stand rising a) _ p in
-    let qb = and_parts (may_stand rising b) _ q in
-    let head = one_line rising a b pa.0 qb.0 (cc) in
-    let tail = one_list rising said other pa.1 qb.1 (cc) in
-    λ i. head i ∷ tail i
+    grind (arith, one_line rising a b, one_list rising said other, p, q, same)
 one_list rising _ _ p q same = absurd cc
 
 -- Each line is marked.
@@ -79,18 +72,16 @@ duals_each P kind each (z ∷ zs) (u ∷ us) zero d l = each z u
 duals_each P kind each (z ∷ zs) (u ∷ us) (suc k) d l = duals_each P kind each zs us k d (omega arith)
 
 -- The lists of the lines of lists.
-nothing : {Y : Type 0} (f : CertLine → List Y) (lines : List CertLine) → All (λ line. f line ≡ []) lines
-    → flat_map f lines ≡ []
-nothing f [] none = refl
-nothing f (line ∷ lines) none = rw (none 0 line (omega arith)) (nothing f lines (λ k d l. none (suc k) d (omega arith)))
-
 no_length : {Y : Type 0} (f : CertLine → List Y) → ((n : ℕ) → f (Length n) ≡ []) → (xs : List ℕ)
     → flat_map f (map Length xs) ≡ []
-no_length f none xs = nothing f _ (lengths_each (λ line. f line ≡ []) none xs)
+no_length f none [] = refl
+no_length f none (x ∷ xs) = rw (none x) (no_length f none xs)
 
 no_dual : {Y : Type 0} (f : CertLine → List Y) (kind : ℤ → ℕ → CertLine) → ((z : ℤ) (u : ℕ) → f (kind z u) ≡ [])
     → (zs : List ℤ) (us : List ℕ) → flat_map f (dual_lines kind zs us) ≡ []
-no_dual f kind none zs us = nothing f _ (duals_each (λ line. f line ≡ []) kind none zs us)
+no_dual f kind none [] us = refl
+no_dual f kind none (z ∷ zs) [] = refl
+no_dual f kind none (z ∷ zs) (u ∷ us) = rw (none z u) (no_dual f kind none zs us)
 
 lengths_all : (xs : List ℕ) → flat_map length_in (map Length xs) ≡ xs
 lengths_all [] = refl

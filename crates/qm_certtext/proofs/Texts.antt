@@ -1,34 +1,30 @@
 -- The lines of a written text, and what they tell.
-use Rattle.std.proofs.Common.{rules, Bool, List, append_assoc, arith, codes, false, filter, get_or, length, subst, ltb}
-use Rattle.std.proofs.Common.{map, not, pos, refl, suc, sym, true, zero, ◌++◌, ◌+◌, ◌<◌, ◌^◌, ◌↔◌, ◌∙◌, ◌∷◌, ◌≡◌, []}
-use Rattle.std.proofs.{Common.ap, Common.ℕ, lemmas.List.Concat.flat_map-append, lemmas.List.Folds.flat_map-map}
-use Rattle.std.proofs.{lemmas.List.Folds.list_all-append, lemmas.List.length-map}
+use Rattle.std.proofs.Common.{rules, Bool, List, append_assoc, arith, codes, false, filter, get_or, length, ltb}
+use Rattle.std.proofs.Common.{map, refl, suc, sym, true, zero, ◌++◌, ◌+◌, ◌<◌, ◌^◌, ◌↔◌, ◌∙◌, ◌∷◌, ◌≡◌, [], ap, ℕ}
 use Rattle.std.proofs.lemmas.Bool.{and_from, and_parts, eqb-true, ltb-true}
-use Rattle.std.specs.{Char.is_ascii_digit, List.flat_map, List.list_all, List.All, Prelude.decimal}
 use Rattle.def_certtext.specs.Reading.{IsHead, Made, TellCerts, TellHow, certificates_in, is_hash_line, may_stand}
-use Rattle.def_certtext.specs.{CertLines.risen, CertLines.used, declared.CertLine.CertLine}
-use Rattle.def_certtext.specs.{declared.certs.Rising.Rising, HeadLine.head_line, Risings.third_if}
+use Rattle.def_certtext.specs.CertLines.{risen, used, Certificates, line_text, text_of, HasUps, lists_of, raised}
 use Rattle.def_certtext.specs.Settings.{AreInRange, IsFloor, floor_text, scale_text, weight_text}
-use Rattle.def_certtext.specs.CertLines.{Certificates, line_text, text_of, HasUps, lists_of, raised, risen_by, alone}
 use Rattle.def_certtext.specs.Laws.{certificate_lines, AreWritable, IsPrintable, WrittenLaw, chosen_lines}
-use Rattle.def_text.specs.{Canonical.canonical_text, FaceSet.FaceSet, Laws.is_position, Laws.is_quad, Types.Word}
-use Rattle.qm_certtext.proofs.{Chosen.chosen_allowed, Chosen.chosen_certs, Counts.small_parts, Found.filter_append}
-use Rattle.qm_certtext.proofs.Cutting.{asked_words, asked_cut, same_settings}
 use Rattle.qm_obj.proofs.LawSoup.{canonical_lines, each_both, position_line, position_line_is, vertex_word, each_map}
 use Rattle.qm_obj.proofs.LawText.{IsLine, IsWord, decimal_word, is_inside, line_tame, lines_back, tame_inside}
-use Rattle.qm_certtext.specs.{Cuts.asked_line, RoundLines.round_lines, RoundLines.HaveUps}
-use Rattle.{def_certtext.specs.declared.certs.Round.Round, def_flow.specs.declared.net.Settings.Settings}
-use Rattle.{def_io.specs.Bytes.Lines, def_io.specs.Lines.lines_of, qm_certtext.proofs.Telling.all_marked}
-use Rattle.{qm_certtext.proofs.Telling.one_list, qm_obj.proofs.LawSoup.face_line, qm_obj.proofs.TailLemmas.passes_at}
-use Rattle.{qm_dec.proofs.ReadBack.decimal_digits, qm_dec.proofs.ReadBack.digit_other}
+use Rattle.std.proofs.{lemmas.List.Folds.list_all-append, lemmas.List.length-map, lemmas.Bool.Decides.nat_tests}
+use Rattle.std.specs.{Char.is_ascii_digit, List.flat_map, List.list_all, List.All, Prelude.decimal}
+use Rattle.def_certtext.specs.{CertLines.risen_by, CertLines.alone, declared.CertLine.CertLine}
+use Rattle.def_certtext.specs.{declared.certs.Rising.Rising, HeadLine.head_line, Risings.third_if}
+use Rattle.def_text.specs.{Canonical.canonical_text, FaceSet.FaceSet, Laws.is_position, Laws.is_quad, Types.Word}
+use Rattle.qm_certtext.proofs.{Chosen.chosen_allowed, Chosen.chosen_certs, Counts.small_parts, Found.filter_append}
+use Rattle.qm_certtext.proofs.{Cutting.asked_words, Cutting.asked_cut, Cutting.same_settings, Telling.all_marked}
+use Rattle.{std.proofs.lemmas.List.Concat.flat_map-append, def_certtext.specs.declared.certs.Round.Round}
+use Rattle.{def_flow.specs.declared.net.Settings.Settings, std.proofs.lemmas.List.Folds.flat_map-map}
+use Rattle.{qm_certtext.specs.RoundLines.round_lines, qm_dec.proofs.ReadBack.decimal_digits, def_io.specs.Bytes.Lines}
+use Rattle.{qm_certtext.specs.RoundLines.HaveUps, qm_certtext.proofs.Telling.one_list, qm_obj.proofs.LawSoup.face_line}
+use Rattle.{qm_obj.proofs.TailLemmas.passes_at, qm_certtext.specs.Cuts.asked_line, def_io.specs.Lines.lines_of}
 
 -- Digits end no line.
 digits_inside : (digits : Word) → list_all is_ascii_digit digits ≡ true → list_all is_inside digits ≡ true
 digits_inside [] all = refl
-digits_inside (d ∷ ds) all =
-    let parts = and_parts (is_ascii_digit d) _ all in
-    and_from _ _ (and_from _ _ (ap not (digit_other 10 (omega arith) d parts.0))
-    (ap not (digit_other 13 (omega arith) d parts.0))) (digits_inside ds parts.1)
+digits_inside (d ∷ ds) all = grind (arith, nat_tests, digits_inside ds, all)
 
 pub number_inside : (n : ℕ) → n < 2 ^ 64 → list_all is_inside (decimal n) ≡ true
 number_inside n low = digits_inside (decimal n) (decimal_digits n low)
@@ -76,15 +72,18 @@ face_line_is face quad low =
     let small = ltb-true _ _ (passes_at (λ v. ltb v (2 ^ 32)) face k 0 low l) in
     decimal_word (get_or face k 0 + 1) (omega arith)))
 
+-- A text that ends no line.
+abbrev IsInside : (text : Word) → Type 0
+IsInside text = list_all is_inside text ≡ true
+
 mesh_inside : (soup : FaceSet) → IsPrintable soup → (k : ℕ) → k < length (canonical_lines soup)
-    → list_all is_inside (get_or (canonical_lines soup) k []) ≡ true
-mesh_inside soup able = each_both (λ l. list_all is_inside l ≡ true) (map position_line soup.pos)
-    (map face_line soup.faces) [] (each_map (λ l. list_all is_inside l ≡ true) position_line soup.pos [] []
-    (λ k l. tame_inside (position_line (get_or soup.pos k [])) (position_line_is (get_or soup.pos k [])
-    (passes_at is_position soup.pos k [] able.positions l)).tame)) (each_map (λ l. list_all is_inside l ≡ true)
-    face_line soup.faces [] [] (λ k l. tame_inside (face_line (get_or soup.faces k []))
-    (face_line_is (get_or soup.faces k []) (passes_at is_quad soup.faces k [] able.quads l)
-    (passes_at (λ face. list_all (λ v. ltb v (2 ^ 32)) face) soup.faces k [] able.corners l)).tame))
+    → IsInside (get_or (canonical_lines soup) k [])
+mesh_inside soup able = each_both IsInside (map position_line soup.pos) (map face_line soup.faces) []
+    (each_map IsInside position_line soup.pos [] [] (λ k l. let at = get_or soup.pos k [] in
+    tame_inside (position_line at) (position_line_is at (passes_at is_position soup.pos k [] able.positions l)).tame))
+    (each_map IsInside face_line soup.faces [] [] (λ k l. let face = get_or soup.faces k [] in
+    tame_inside (face_line face) (face_line_is face (passes_at is_quad soup.faces k [] able.quads l)
+    (passes_at (λ f. list_all (λ v. ltb v (2 ^ 32)) f) soup.faces k [] able.corners l)).tame))
 
 none_marked : {X : Type 0} (f : X → Word) → ((x : X) → is_hash_line (f x) ≡ false) → (xs : List X)
     → filter is_hash_line (map f xs) ≡ []
@@ -99,8 +98,8 @@ mesh_and_said soup said = search (rules, flat_map-map, flat_map-append)
 behind_inside : (rising : Rising) (soup : FaceSet) (said : List CertLine) → IsPrintable soup
     → list_all (may_stand rising) said ≡ true → (k : ℕ) → k < length (canonical_lines soup ++ map line_text said)
     → list_all is_inside (get_or (canonical_lines soup ++ map line_text said) k []) ≡ true
-behind_inside rising soup said able allowed = each_both (λ l. list_all is_inside l ≡ true) (canonical_lines soup)
-    (map line_text said) [] (mesh_inside soup able) (lines_inside rising said allowed)
+behind_inside rising soup said able allowed = each_both IsInside (canonical_lines soup) (map line_text said) []
+    (mesh_inside soup able) (lines_inside rising said allowed)
 
 -- The lines of the text behind a head line.
 pub lines_behind : (rising : Rising) (soup : FaceSet) (said : List CertLine) → IsPrintable soup
@@ -131,8 +130,7 @@ pub same_asked : (prefix line : Word) (s t : Settings) (a b : Bool) → AreInRan
     → AreInRange t b → line ≡ asked_line prefix t b → (s ≡ t) × (a ≡ b)
 same_asked prefix line s t a b range is other also =
     let cut = asked_cut prefix line s a range is in
-    same_settings _ _ _ s t a b (asked_words prefix line _ _ _ s a cut range is)
-    (asked_words prefix line _ _ _ t b cut other also)
+    same_settings _ _ _ s t a b (asked_words cut range is) (asked_words cut other also)
 
 -- So is one head line.
 pub same_head : (line : Word) (s t : Settings) (a b : Bool) → IsHead line s a → IsHead line t b → (s ≡ t) × (a ≡ b)
@@ -170,8 +168,7 @@ certs_told rising soup certificates printable able =
 pub written_law : WrittenLaw
 written_law settings auto soup certificates range printable able other =
     let is : other ≡ made → TellHow (head_line settings auto) (canonical_lines soup ++ map line_text said) other =
-    λ same. subst (TellHow (head_line settings auto) (canonical_lines soup ++ map line_text said)) (sym same)
-    (record { settings = head; certificates = (tells certificates).1 refl }) in
+    λ same. rw same (record { settings = head; certificates = (tells certificates).1 refl }) in
     rw (lines_whole (head_line settings auto) (third_if auto) soup said (head_inside settings auto range) printable
     (chosen_allowed (third_if auto) certificates able)) (only, is)
   where
@@ -191,8 +188,7 @@ written_law settings auto soup certificates range printable able other =
     only : TellHow (head_line settings auto) (canonical_lines soup ++ map line_text said) other → other ≡ made
     only tell =
         let same = same_head (head_line settings auto) settings other.settings auto other.auto head tell.settings in
-        let both : other.certificates ≡ certificates = (tells other.certificates).0 (subst (λ (b : Bool). TellCerts
-        (third_if b) (canonical_lines soup ++ map line_text said) other.certificates) (sym same.1) tell.certificates) in
+        let both = (tells other.certificates).0 (rw (← same.1) at tell.certificates) in
         λ i. record { settings = sym same.0 i; auto = sym same.1 i; certificates = both i }
 
 -- What the lines of certificates are written from.

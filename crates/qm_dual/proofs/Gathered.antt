@@ -1,13 +1,12 @@
 -- Climbing through nested sets, one set at a time.
 use Rattle.std.proofs.Common.{rules, ◌≡◌, ℕ, zero, suc, ◌+◌, ◌<◌, ◌≤◌, ◌≢◌, ◌==◌, ◌||◌, Bool, true, false, List, refl}
-use Rattle.std.proofs.Common.{sym, ◌∙◌, ap, inl, inr, ◌⊎◌, arith, ◌*◌, ◌^◌, not, cond, length, ℤ, pos, ◌+ℤ◌, ◌-ℤ◌, eqb}
+use Rattle.std.proofs.Common.{sym, ◌∙◌, ap, inl, inr, ◌⊎◌, arith, ◌*◌, ◌^◌, not, cond, length, ℤ, pos, ◌+ℤ◌, ◌-ℤ◌}
 use Rattle.std.proofs.Common.{[], ◌∷◌, ◌*ℤ◌, Option, Some, None}
-use Rattle.std.proofs.lemmas.Bool.{or_left, or_right, cases_eq, eq-eqb, ne_eqb, false_from_ne_true}
-use Rattle.std.proofs.{lemmas.List.get_or_past, lemmas.Int.ints}
+use Rattle.std.proofs.lemmas.Bool.{or_left, or_right, cases_eq, eq-eqb, ne_eqb}
+use Rattle.std.proofs.{lemmas.List.get_or_past, lemmas.Int.ints, lemmas.Bool.Decides.nat_tests}
 use Rattle.std.specs.Prelude.{slice_index, unsigned_abs}
 use Rattle.def_matching.specs.Dual.{AreNestedSets, DualLists, AreSmall, IsSmallDual, z_at}
 use Rattle.qm_dual.specs.Nest.{climbs, around, apart, named_sum, AreSums, IsMeeting}
-use mir.{Syntax.w128, Val.to_z, Val.of_z}
 use Rattle.def_math.specs.{Sums.total_below, Sums.total, Counts.count, Searches.least, Searches.or_this}
 use Rattle.sum_laws.proofs.Sums.{total_below_same, total_below_sum, total_below_none, total_below_one}
 
@@ -54,26 +53,21 @@ module _ {n m : ℕ} {up : List ℕ} (nested : AreNestedSets n m up) where
   -- Only later sets are passed, and no climb is from none.
   pub passed_later : (steps k entry : ℕ) → entry ≤ m → climbs n up steps k entry ≡ true
       → (0 < entry) × (entry ≤ suc k) × (k < m)
-  passed_later (suc steps) k (suc j) low on = elim (passed_on j k (climbs n up steps k (slice_index up (n + j))) on) [
-    | inl e ↦ (omega arith, omega arith, omega arith)
-    | inr there ↦ (let p = set_later j in
-        let rest = passed_later steps k (slice_index up (n + j)) (omega arith) there in
-        (omega arith, omega arith, omega arith))
-  ]
-  passed_later (suc steps) k zero low on = absurd cc
-  passed_later zero k entry low on = absurd cc
+  passed_later (suc steps) k (suc j) low on =
+      let around = slice_index up (n + j) in
+      let first = passed_on j k (climbs n up steps k around) on in
+      grind (arith, first, set_later j, passed_later steps k around)
+  passed_later _ k _ low on = absurd cc
 
   -- Where climbing from a set passes another, what the other passes is passed.
   pub passed_further : (steps b k entry : ℕ) → entry ≤ m → climbs n up steps b entry ≡ true
       → climbs n up m k (suc b) ≡ true → climbs n up m k entry ≡ true
   passed_further (suc steps) b k (suc j) low on further =
-      elim (passed_on j b (climbs n up steps b (slice_index up (n + j))) on) [
-        | inl e ↦ ap (λ i. climbs n up m k (suc i)) e ∙ further
-        | inr there ↦ (let p = set_later j in climb_over k j (omega arith)
-            (passed_further steps b k (slice_index up (n + j)) (omega arith) there further))
-      ]
-  passed_further (suc steps) b k zero low on further = absurd cc
-  passed_further zero b k entry low on further = absurd cc
+      let around = slice_index up (n + j) in
+      let first = passed_on j b (climbs n up steps b around) on in
+      let rest = passed_further steps b k around in
+      grind (arith, first, set_later j, rest, climb_over k j, further)
+  passed_further _ b k _ low on further = absurd cc
 
 -- The load of an edge, by the sets around each of its ends and around both.
 
@@ -100,27 +94,19 @@ around_step n d nested j l =
     let own : ℕ → ℤ = λ (k : ℕ). cond (j == k) (z_at d k) (pos 0) in
     let rest : ℕ → ℤ = λ (k : ℕ). cond (climbs n d.up (length d.z) k (slice_index d.up (n + j))) (z_at d k) (pos 0) in
     let parts : around n d (suc j) ≡ total_below (λ k. own k +ℤ rest k) (length d.z) = total_below_same _ _ (length d.z)
-    (λ k lk. ap (λ b. cond b (z_at d k) (pos 0)) (climb_on nested k j l) ∙ by_tests k (cases_eq j k)) in
+    (λ k lk.
+    let later = passed_later nested (length d.z) k (slice_index d.up (n + j)) in
+    grind (arith, ints, nat_tests, cases_eq j k, climb_on nested k j l, set_later nested j, later)) in
     let here : own j ≡ z_at d j = ap (λ b. cond b (z_at d j) (pos 0)) (eq-eqb j j refl) in
     let sum = total_below_sum own rest (length d.z) in
     let one = total_below_one own (length d.z) j l (λ k lk ne. ap (λ b. cond b (z_at d k) (pos 0))
     (ne_eqb j k (λ e. ne (sym e)))) in
     omega (arith, ints)
-  where
-    by_tests : (k : ℕ) → (j ≡ k) ⊎ (j ≡ k → ⊥) → cond ((j == k) || climbs n d.up (length d.z) k (slice_index d.up (n
-        + j))) (z_at d k) (pos 0) ≡ cond (j == k) (z_at d k) (pos 0)
-        +ℤ cond (climbs n d.up (length d.z) k (slice_index d.up (n + j))) (z_at d k) (pos 0)
-    by_tests k (inl e) =
-        let p = set_later nested j in
-        let off : climbs n d.up (length d.z) k (slice_index d.up (n + j)) ≡ false = false_from_ne_true _ (λ on.
-        omega (arith, passed_later nested (length d.z) k (slice_index d.up (n + j)) (omega arith) on)) in
-        rw (eq-eqb j k e, off) (omega (arith, ints))
-    by_tests k (inr ne) = rw (ne_eqb j k ne) (omega (arith, ints))
 
 -- A set's sum is what a climb gathers from its entry, where the sums of the sets from k on are known.
-pub named_around : (n : ℕ) (d : DualLists) {k : ℕ} (sums : List ℤ) → AreSums n d k sums → (entry : ℕ)
+pub named_around : {n : ℕ} {d : DualLists} {k : ℕ} {sums : List ℤ} → AreSums n d k sums → (entry : ℕ)
     → entry ≤ length d.z → (entry ≢ 0 → k < entry) → named_sum sums entry ≡ around n d entry
-named_around n d h1 entry h2 h3 = search (rules, around_none)
+named_around {n} {d} h1 entry h2 h3 = search (rules, around_none)
 
 -- The sum of a named set is small.
 pub named_small : (n : ℕ) (d : DualLists) (sums : List ℤ) → AreSums n d 0 sums → IsSmallDual d → (entry : ℕ)
@@ -128,10 +114,10 @@ pub named_small : (n : ℕ) (d : DualLists) (sums : List ℤ) → AreSums n d 0 
 named_small n d sums are small entry low x is = search (rules, around_small)
 
 -- The sets around exactly one of two entries, by the sums of the sets that the two name and of the least around both.
-pub apart_sums : (n : ℕ) (d : DualLists) (sums : List ℤ) → AreSums n d 0 sums → (a b entry : ℕ) → a ≤ length d.z
+pub apart_sums : {n : ℕ} {d : DualLists} {sums : List ℤ} → AreSums n d 0 sums → {a b entry : ℕ} → a ≤ length d.z
     → b ≤ length d.z → entry ≤ length d.z → IsMeeting n (length d.z) d.up a b entry
     → apart n d a b ≡ (named_sum sums a +ℤ named_sum sums b) -ℤ (named_sum sums entry +ℤ named_sum sums entry)
-apart_sums n d sums are a b entry la lb le meets =
+apart_sums {n} {d} {sums} are {a} {b} {entry} la lb le meets =
     let crossing : ℕ → ℤ = λ (k : ℕ). cond (cond (climbs n d.up (length d.z) k a) (not (climbs n d.up (length d.z) k b))
     (climbs n d.up (length d.z) k b)) (z_at d k) (pos 0) in
     let from : ℕ → ℕ → ℤ = λ (e k : ℕ). cond (climbs n d.up (length d.z) k e) (z_at d k) (pos 0) in
@@ -143,24 +129,9 @@ apart_sums n d sums are a b entry la lb le meets =
     let one = total_below_sum crossing (λ k. both k +ℤ both k) (length d.z) in
     let two = total_below_sum both both (length d.z) in
     let sum = total_below_sum (from a) (from b) (length d.z) in
-    let at_a = named_around n d sums are a la (λ ne. omega arith) in
-    let at_b = named_around n d sums are b lb (λ ne. omega arith) in
-    omega (arith, ints, named_around n d sums are entry le (λ ne. omega arith))
-
--- The sum that the code makes of three small numbers wraps nowhere, and is not great.
-pub plain_difference : (x y z : ℤ) → (unsigned_abs x ≤ 2 ^ 30 * 10 ^ 18) × (unsigned_abs y ≤ 2 ^ 30 * 10 ^ 18)
-    × (unsigned_abs z ≤ 2 ^ 30 * 10 ^ 18)
-    → (to_z w128 (of_z w128 (to_z w128 (of_z w128 (to_z w128 (of_z w128 x) +ℤ to_z w128 (of_z w128 y))) -ℤ to_z w128
-    (of_z w128 (to_z w128 (of_z w128 z) +ℤ to_z w128 (of_z w128 z))))) ≡ (x +ℤ y) -ℤ (z +ℤ z))
-    × (unsigned_abs ((x +ℤ y) -ℤ (z +ℤ z)) ≤ 2 ^ 92)
-plain_difference x y z (lx, ly, lz) =
-    let a : to_z w128 (of_z w128 x) ≡ x = omega (arith, ints) in
-    let b : to_z w128 (of_z w128 y) ≡ y = omega (arith, ints) in
-    let c : to_z w128 (of_z w128 z) ≡ z = omega (arith, ints) in
-    let ab : to_z w128 (of_z w128 (x +ℤ y)) ≡ x +ℤ y = omega (arith, ints) in
-    let cc' : to_z w128 (of_z w128 (z +ℤ z)) ≡ z +ℤ z = omega (arith, ints) in
-    let all : to_z w128 (of_z w128 ((x +ℤ y) -ℤ (z +ℤ z))) ≡ (x +ℤ y) -ℤ (z +ℤ z) = omega (arith, ints) in
-    (rw (a, b, c, ab, cc', all) refl, omega (arith, ints))
+    let at_a = named_around are a la (λ ne. omega arith) in
+    let at_b = named_around are b lb (λ ne. omega arith) in
+    omega (arith, ints, named_around are entry le (λ ne. omega arith))
 
 -- A sum over the ends of edges is a sum over the vertices.
 
@@ -179,13 +150,8 @@ plus_times a b c = search (rules, ints)
 
 -- The number of one vertex, as a sum in which it alone counts.
 pub one_end : (f : ℕ → ℤ) (n u : ℕ) → u < n → total_below (λ k. pos (hit u k) *ℤ f k) n ≡ f u
-one_end f n u l = total_below_one (λ k. pos (hit u k) *ℤ f k) n u l other ∙ here
-  where
-    other : (k : ℕ) → k < n → (k ≡ u → ⊥) → pos (hit u k) *ℤ f k ≡ pos 0
-    other k lk ne = let off : eqb u k ≡ false = ne_eqb u k (λ e. ne (sym e)) in rw off (omega (arith, ints))
-
-    here : pos (hit u u) *ℤ f u ≡ f u
-    here = let on : eqb u u ≡ true = eq-eqb u u refl in rw on (omega (arith, ints))
+one_end f n u l =
+    total_below_one _ n u l (λ k lk ne. grind (arith, ints, nat_tests)) ∙ grind (arith, ints, nat_tests)
 
 -- Each vertex counts as often as it is an end.
 pub ends_sum : {X : Type 0} (u v : X → ℕ) (f : ℕ → ℤ) (n : ℕ) (xs : List X) → EndsBelow u v n xs
@@ -196,22 +162,12 @@ ends_sum {X} u v f n (x ∷ xs) below =
     let left : ℕ → ℤ = λ (k : ℕ). pos (hit (u x) k) *ℤ f k in
     let right : ℕ → ℤ = λ (k : ℕ). pos (hit (v x) k) *ℤ f k in
     let parts : total_below (λ k. pos (hit (u x) k + hit (v x) k + count (λ (e : X). hit (u e) k + hit (v e) k) xs) *ℤ f
-    k) n ≡ total_below (λ k. (left k +ℤ right k) +ℤ rest k) n = total_below_same _ _ n (λ k l. omega (
-      arith,
-      ints,
-      plus_times (hit (u x) k + hit (v x) k) (count (λ (e : X). hit (u e) k + hit (v e) k) xs) (f k),
-      plus_times (hit (u x) k) (hit (v x) k) (f k),
-    )) in
-    omega (
-      arith,
-      ints,
-      parts,
-      total_below_sum (λ k. left k +ℤ right k) rest n,
-      total_below_sum left right n,
-      one_end f n (u x) below.0,
-      one_end f n (v x) below.1,
-      ends_sum u v f n xs below.2,
-    )
+    k) n ≡ total_below (λ k. (left k +ℤ right k) +ℤ rest k) n = total_below_same _ _ n (λ k l.
+    let both = plus_times (hit (u x) k + hit (v x) k) (count (λ (e : X). hit (u e) k + hit (v e) k) xs) (f k) in
+    omega (arith, ints, plus_times (hit (u x) k) (hit (v x) k) (f k))) in
+    let sum = total_below_sum (λ k. left k +ℤ right k) rest n in
+    let ends = total_below_sum left right n in
+    omega (arith, ints, one_end f n (u x) below.0, one_end f n (v x) below.1, ends_sum u v f n xs below.2)
 
 -- Where each vertex is an end just once, each counts once.
 pub ends_once : {X : Type 0} (u v : X → ℕ) (f : ℕ → ℤ) (n : ℕ) (xs : List X) → EndsBelow u v n xs
@@ -230,10 +186,8 @@ least_none p (suc n) off = rw (least_none p n (λ k l. off k (omega arith)), off
 -- The first that passes is found.
 pub least_some : (p : ℕ → Bool) (n j : ℕ) → j < n → ((k : ℕ) → k < j → p k ≡ false) → p j ≡ true → least p n ≡ Some j
 least_some p zero j l off on = absurd (omega arith)
-least_some p (suc n) j l off on = elim (cases_eq j n) [
-  | inl e ↦ rw (least_none p n (λ k lk. off k (omega arith)), ap p (sym e) ∙ on) (ap Some (sym e))
-  | inr ne ↦ rw (least_some p n j (omega arith) off on) refl
-]
+least_some p (suc n) j l off on =
+    grind (arith, cases_eq j n, least_none p n, least_some p n j, off, on)
 
 -- What was not found does not pass.
 not_this : (o : Option ℕ) (n : ℕ) (b : Bool) → or_this o n b ≡ None → (o ≡ None) × (b ≡ false)
@@ -245,7 +199,7 @@ pub none_below : (p : ℕ → Bool) (n : ℕ) → least p n ≡ None → (k : �
 none_below p zero none k l = absurd (omega arith)
 none_below p (suc n) none k l =
     let (before, here) = not_this (least p n) n (p n) none in
-    elim (cases_eq k n) [ inl e ↦ ap p e ∙ here | inr ne ↦ none_below p n before k (omega arith) ]
+    grind (arith, cases_eq k n, here, none_below p n before k)
 
 -- Tests that agree below the bound have the same least number.
 pub least_same : (p q : ℕ → Bool) (n : ℕ) → ((k : ℕ) → k < n → p k ≡ q k) → least p n ≡ least q n
@@ -253,12 +207,11 @@ least_same p q zero same = refl
 least_same p q (suc n) same = rw (least_same p q n (λ k l. same k (omega arith)), same n (omega arith)) refl
 
 -- What is found is below the bound.
+found_this : (o : Option ℕ) (n j : ℕ) (b : Bool) → or_this o n b ≡ Some j → (o ≡ Some j) ⊎ (n ≡ j)
+found_this (Some i) n j b found = inl found
+found_this None n j true found = inr cc
+found_this None n j false found = absurd cc
+
 pub least_low : (p : ℕ → Bool) (n j : ℕ) → least p n ≡ Some j → j < n
 least_low p zero j found = absurd cc
-least_low p (suc n) j found = by_before (least p n) (p n) refl found (least_low p n)
-  where
-    by_before : (o : Option ℕ) (b : Bool) → least p n ≡ o → or_this o n b ≡ Some j
-        → ((i : ℕ) → least p n ≡ Some i → i < n) → j < suc n
-    by_before (Some i) b was is low = let same : i ≡ j = cc in omega (arith, low i was, same)
-    by_before None true was is low = let same : n ≡ j = cc in omega (arith, same)
-    by_before None false was is low = absurd cc
+least_low p (suc n) j found = grind (arith, found_this (least p n) n j (p n) found, least_low p n j)

@@ -1,9 +1,9 @@
 -- Sums along a list as sums over its places.
 use Rattle.std.proofs.Common.{rules, ◌≡◌, ℕ, zero, suc, ◌+◌, ◌<◌, List, [], ◌∷◌, length, get_or, take, ℤ, ◌+ℤ◌, refl}
-use Rattle.std.proofs.Common.{◌∙◌, ap, arith, ◌-◌, ◌≤◌, ◌≢◌, ◌==◌, ◌&&◌, Bool, true, false, max, sym, subst, inl, inr}
+use Rattle.std.proofs.Common.{◌∙◌, ap, arith, ◌-◌, ◌≤◌, ◌≢◌, ◌==◌, ◌&&◌, Bool, true, false, max, sym, inl, inr}
 use Rattle.std.proofs.{Common.◌⊎◌, Common.cond, Common.min, lemmas.Int.ints, lemmas.Bool.Decides.nat_tests}
 use Rattle.std.proofs.lemmas.List.{take_more, get_or_past, length-set}
-use Rattle.std.proofs.lemmas.Bool.{cases_eq, cases_lt, and_parts, and_from, eq-eqb, ne_eqb, cond-false}
+use Rattle.std.proofs.lemmas.Bool.{cases_eq, cases_lt, and_parts, and_from, eq-eqb}
 use Rattle.sum_laws.proofs.Sums.{total_append, count_below_none, count_below_same, count_below_sum}
 use Rattle.qm_dual.specs.Nest.{climbs, AreHeads, IsMeeting, HaveSameSets, stand_of, tally, tally_with, AreTallies}
 use Rattle.qm_dual.proofs.Gathered.{set_later, around_later, climb_none, climbs_itself, climb_over, passed_on}
@@ -37,8 +37,7 @@ swapped x y = grind (arith)
 
 -- Where one entry is none, no set is around both.
 pub meeting_none : (n m : ℕ) (up : List ℕ) (a b : ℕ) → (a ≡ 0) ⊎ (b ≡ 0) → IsMeeting n m up a b 0
-meeting_none n m up a b (inl e) k = rw (e, climb_none n up m k) refl
-meeting_none n m up a b (inr e) k = rw (e, climb_none n up m k) (swapped false (climbs n up m k a))
+meeting_none n m up a b none k = grind (arith, none, climb_none n up m k)
 
 module _ {n m : ℕ} {up heads : List ℕ} (nested : AreNestedSets n m up) (are : AreHeads n m up heads) where
   -- A head is at or above its set, and is a set.
@@ -46,10 +45,9 @@ module _ {n m : ℕ} {up heads : List ℕ} (nested : AreNestedSets n m up) (are 
   up_to_head zero j enough l = absurd (omega arith)
   up_to_head (suc fuel) j enough l = elim (are.each j l) [
     | inl e ↦ (omega arith, omega arith)
-    | inr h ↦ (let above = around_later nested j h.0 h.1 in
-        let rest = up_to_head fuel h.0 (omega arith) above.1 in
-        let same = h.2 in
-        (omega arith, omega arith))
+    | inr h ↦
+        let above = around_later nested j h.0 h.1 in
+        grind (arith, above, up_to_head fuel h.0 (omega arith) above.1, h.2)
   ]
 
   pub head_later : (j : ℕ) → j < m → (j < slice_index heads j) × (slice_index heads j ≤ m)
@@ -59,18 +57,12 @@ module _ {n m : ℕ} {up heads : List ℕ} (nested : AreNestedSets n m up) (are 
   head_of_passed : (steps k j : ℕ) → j < m → climbs n up steps k (suc j) ≡ true
       → (slice_index heads j ≡ slice_index heads k) ⊎ (slice_index heads j ≤ k)
   head_of_passed zero k j l on = absurd cc
-  head_of_passed (suc steps) k j l on = elim (passed_on j k (climbs n up steps k (slice_index up (n + j))) on) [
-    | inl e ↦ inl (ap (slice_index heads) e)
-    | inr there ↦ elim (are.each j l) [
-      | inl e ↦ (let p = set_later nested j in
-          let high = passed_later nested steps k (slice_index up (n + j)) (omega arith) there in
-          inr (omega arith))
-      | inr h ↦ (let same = h.2 in
-          elim (head_of_passed steps k h.0 (around_later nested j h.0 h.1).1
-          (subst (λ (e : ℕ). climbs n up steps k e ≡ true) h.1 there))
-          [ inl e ↦ inl (same ∙ e) | inr low ↦ inr (omega arith) ])
-    ]
-  ]
+  head_of_passed (suc steps) k j l on =
+      let around = slice_index up (n + j) in
+      let high = passed_later nested steps k around in
+      let rest = head_of_passed steps k in
+      let first = passed_on j k (climbs n up steps k around) on in
+      grind (arith, first, are.each j l, set_later nested j, high, around_later nested j, rest)
 
   -- A set that is passed from another lies on its path, or is passed from the set around the head.
   past_head : (steps k j t : ℕ) → j < m → slice_index heads j ≡ suc t → climbs n up steps k (suc j) ≡ true
@@ -79,10 +71,8 @@ module _ {n m : ℕ} {up heads : List ℕ} (nested : AreNestedSets n m up) (are 
   past_head (suc steps) k j t l top on = elim (passed_on j k (climbs n up steps k (slice_index up (n + j))) on) [
     | inl e ↦ inl (sym (ap (slice_index heads) e) ∙ top)
     | inr there ↦ elim (are.each j l) [
-      | inl e ↦ (let here : j ≡ t = omega arith in
-          inr (steps, subst (λ (i : ℕ). climbs n up steps k (slice_index up (n + i)) ≡ true) here there))
-      | inr h ↦ past_head steps k h.0 t (around_later nested j h.0 h.1).1 (sym h.2 ∙ top)
-          (subst (λ (e : ℕ). climbs n up steps k e ≡ true) h.1 there)
+      | inl e ↦ (let here : j ≡ t = omega arith in inr (steps, rw here at there))
+      | inr h ↦ past_head steps k h.0 t (around_later nested j h.0 h.1).1 (sym h.2 ∙ top) (rw h.1 at there)
     ]
   ]
 
@@ -90,11 +80,9 @@ module _ {n m : ℕ} {up heads : List ℕ} (nested : AreNestedSets n m up) (are 
   from_head : (fuel k j t : ℕ) → m ≤ fuel + j → j < m → slice_index heads j ≡ suc t
       → climbs n up m k (slice_index up (n + t)) ≡ true → climbs n up m k (suc j) ≡ true
   from_head zero k j t enough l top on = absurd (omega arith)
-  from_head (suc fuel) k j t enough l top on = climb_over nested k j l (elim (are.each j l) [
-    | inl e ↦ (let here : j ≡ t = omega arith in ap (λ i. climbs n up m k (slice_index up (n + i))) here ∙ on)
-    | inr h ↦ (let above = around_later nested j h.0 h.1 in
-        ap (climbs n up m k) h.1 ∙ from_head fuel k h.0 t (omega arith) above.1 (sym h.2 ∙ top) on)
-  ])
+  from_head (suc fuel) k j t enough l top on =
+      let over = climb_over nested k j l in
+      grind (arith, are.each j l, around_later nested j, from_head fuel k, over, on, top)
 
   -- The last set before one that is passed.
   last_before : (steps q b : ℕ) → b < m → climbs n up steps q (suc b) ≡ true → b ≢ q
@@ -108,9 +96,8 @@ module _ {n m : ℕ} {up heads : List ℕ} (nested : AreNestedSets n m up) (are 
         let is : slice_index up (n + b) ≡ suc p = omega arith in
         elim (cases_eq p q) [
           | inl e ↦ (b, l, is ∙ ap suc e, climbs_itself nested b l)
-          | inr other ↦ (let r = last_before steps q p (omega arith)
-              (subst (λ (e : ℕ). climbs n up steps q e ≡ true) is there) other in
-              (r.0, r.1, r.2, climb_over nested r.0 b l (ap (climbs n up m r.0) is ∙ r.3)))
+          | inr other ↦ (let (c, low_c, outer, passed) = last_before steps q p (omega arith) (rw is at there) other in
+              (c, low_c, outer, climb_over nested c b l (ap (climbs n up m c) is ∙ passed)))
         ])
   ]
 
@@ -131,15 +118,9 @@ module _ {n m : ℕ} {up heads : List ℕ} (nested : AreNestedSets n m up) (are 
                 (path_chain fuel b h.0 (omega arith) (omega arith) above.1 top) (λ e. omega arith) in
                 let below = around_later nested r.0 h.0 r.2 in
                 let high = head_later h.0 above.1 in
-                let one_path : slice_index heads r.0 ≡ slice_index heads h.0 =
-                elim (head_of_passed m r.0 b low r.3) [ inl e ↦ sym e ∙ top | inr le ↦ absurd (omega arith) ] in
-                elim (are.each r.0 r.1) [
-                  | inl e ↦ absurd (omega arith)
-                  | inr p ↦ (let same_set = sym p.1 ∙ r.2 in
-                      let there : p.0 ≡ h.0 = omega arith in
-                      let picked = sym p.3 ∙ ap are.picks there ∙ h.3 in
-                      absurd (omega (arith, passed_later nested m r.0 (suc b) (omega arith) r.3)))
-                ])
+                let before = passed_later nested m r.0 (suc b) (omega arith) r.3 in
+                let on_path = head_of_passed m r.0 b low r.3 in
+                absurd (grind (arith, are.each r.0 r.1, on_path, before, below, high, r.2, top, h.3)))
           ])
     ]
   ]
@@ -150,14 +131,13 @@ module _ {n m : ℕ} {up heads : List ℕ} (nested : AreNestedSets n m up) (are 
   leave_path a b i j ai bj la lb lower k =
       let t : ℕ = slice_index heads i - 1 in
       let top : slice_index heads i ≡ suc t = omega (arith, head_later i (omega arith)) in
-      rw (ai, bj) (same_test _ _ (λ on. let both = and_parts (climbs n up m k (suc i)) (climbs n up m k (suc j)) on in
-      let inner = (passed_later nested m k (suc i) (omega arith) both.0).2 in
-      elim (past_head m k i t (omega arith) top both.0) [
-        | inr p ↦ (let around = set_later nested t in
-            and_from _ _ (passed_further nested p.0 k k (slice_index up (n + t)) (omega arith) p.1
-            (climbs_itself nested k inner)) both.1)
-        | inl e ↦ absurd (omega (arith, head_later k inner, head_of_passed m k j (omega arith) both.1))
-      ])
+      rw (ai, bj) (same_test _ _ (λ on. let (first, second) = and_parts (climbs n up m k (suc i)) _ on in
+      let inner = (passed_later nested m k (suc i) (omega arith) first).2 in
+      let head = past_head m k i t (omega arith) top first in
+      let further = λ (steps : ℕ). passed_further nested steps k k (slice_index up (n + t)) in
+      let on_path = head_of_passed m k j (omega arith) second in
+      let itself = climbs_itself nested k inner in
+      grind (arith, head, set_later nested t, further, itself, second, head_later k inner, on_path))
       (λ on. let both = and_parts (climbs n up m k (slice_index up (n + t))) (climbs n up m k (suc j)) on in
       and_from _ _ (from_head m k i t (omega arith) (omega arith) top both.0) both.1))
 
@@ -229,10 +209,9 @@ tally_step n up vertices k j other = count_below_same _ _ vertices (λ v l. stan
 -- Tallies are no greater than the number of vertices.
 pub tallies_low : {n m : ℕ} {up : List ℕ} {vertices : ℕ} {t : ℕ → ℕ} {sizes : List ℕ}
     → AreTallies n m up vertices t sizes → (k : ℕ) → slice_index sizes k ≤ vertices
-tallies_low {n} {m} {up} {vertices} {t} {sizes} are k = elim (cases_lt k m) [
-  | inl l ↦ omega (arith, are.each k l, tests_low (λ v. stand_of n up (t k) (slice_index up v) == suc k) vertices)
-  | inr h ↦ omega (arith, get_or_past sizes k 0 (omega (arith, are.count)))
-]
+tallies_low {n} {m} {up} {vertices} {t} {sizes} are k =
+    let few = tests_low (λ v. stand_of n up (t k) (slice_index up v) == suc k) vertices in
+    grind (arith, cases_lt k m, are.each k, few, get_or_past sizes k 0, are.count)
 
 length_with : (sizes : List ℕ) (entry more : ℕ) → length (tally_with sizes entry more) ≡ length sizes
 length_with sizes zero more = refl
@@ -252,22 +231,11 @@ tallies_pass {n} {m} {up} nested k sizes lk are =
     let more = slice_index sizes k in
     record {
       count = length_with sizes entry more ∙ are.count;
-      each = λ j l. let inner : j < length sizes = omega (arith, are.count) in elim (cases_lt k j) [
-        | inl after ↦ (let low : min j k ≡ k = omega arith in
-            let self : min k k ≡ k = omega arith in
-            let next : min j (k + 1) ≡ suc k = omega arith in
-            number_with sizes entry more j (tally n up n k j) (tally n up n k k) inner
-            (are.each j l ∙ ap (λ i. tally n up n i j) low) (are.each k lk ∙ ap (λ i. tally n up n i k) self)
-            ∙ sym (ap (λ i. tally n up n i j) next ∙ tally_step n up n k j (λ e. omega arith)))
-        | inr before ↦ (let p = set_later nested k in
-            let is : min j k ≡ min j (k + 1) = omega arith in
-            let off = cond-false (entry == suc j) more 0 (ne_eqb entry (suc j) (λ e. omega arith)) in
-            omega (
-              arith,
-              number_with sizes entry more j (slice_index sizes j) more inner refl refl,
-              are.each j l ∙ ap (λ i. tally n up n i j) is,
-            ))
-      ];
+      each = λ j l.
+          let step = tally_step n up n k j in
+          let grown = number_with sizes entry more j (slice_index sizes j) more (omega (arith, are.count)) refl refl in
+          let later = set_later nested k in
+          grind (arith, nat_tests, cases_lt k j, cases_eq j k, are.each j l, are.each k lk, step, grown, later);
     }
 
 -- When all sets have passed on, the tallies are the sizes.

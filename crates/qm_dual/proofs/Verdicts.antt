@@ -1,14 +1,14 @@
 -- The verdict yes is that the dual says yes.
-use Rattle.std.proofs.Common.{rules, ◌≡◌, ℕ, ◌+◌, ◌<◌, ◌==◌, Bool, true, false, not, cond, List, length, ℤ, pos, ◌*ℤ◌}
-use Rattle.std.proofs.Common.{◌≤ℤ◌, ◌^◌, ◌≤◌, Option, Some, None, IfNone, Result, Ok, Err, IfOk, refl, sym, ◌∙◌, ap}
-use Rattle.std.specs.{Prelude.int_lt, Prelude.slice_index, Prelude.slice_index_or}
+use Rattle.std.proofs.Common.{rules, ◌≡◌, ℕ, ◌+◌, ◌<◌, Bool, true, false, not, List, length, ℤ, pos, ◌*ℤ◌, ◌≤ℤ◌, ◌^◌}
+use Rattle.std.proofs.Common.{◌≤◌, Option, Some, None, IfNone, Result, Ok, Err, IfOk, refl, sym, ◌∙◌, arith}
+use Rattle.std.specs.Prelude.{int_lt, slice_index, slice_index_or}
 use Rattle.qm_dual.proofs.Gathered.{least_none, least_some, least_same, none_below}
 use Rattle.def_matching.specs.declared.weighted.Verdict.TheVariants.{Yes, Shape, Even, Negative, Short}
 use Rattle.def_matching.specs.Matching.{WeightedGraph, IsGraph, edge_at, IsPerfect, matching_cost}
 use Rattle.def_matching.specs.Dual.{DualLists, AreNestedSets, SaysYes, set_size, is_odd_size, is_up, load, z_at}
 use Rattle.def_matching.specs.Dual.{dual_sum, shape_fault, even_fault, negative_fault, short_fault, refuse, verdict}
-use Rattle.{std.proofs.Common.arith, std.proofs.lemmas.Int.ints, std.proofs.lemmas.Bool.not-false}
-use Rattle.{qm_dual.proofs.Weak.weak_duality, def_matching.specs.declared.weighted.Verdict.Verdict}
+use Rattle.std.{proofs.lemmas.Int.ints, proofs.lemmas.Bool.not-false, proofs.lemmas.Bool.Decides.nat_tests}
+use Rattle.{def_matching.specs.declared.weighted.Verdict.Verdict, qm_dual.proofs.Weak.weak_duality}
 use Rattle.{def_math.specs.Searches.least, qm_dual.specs.Nest.AreSizes, qm_dual.specs.Nest.IsNest}
 
 -- The load of an edge is above twice its cost.
@@ -31,14 +31,7 @@ placed n m up long none = record {
 
 -- No fault of the shape: all that is asked of it.
 shaped : (n : ℕ) (d : DualLists) → shape_fault n d ≡ None → (length d.y ≡ n) × AreNestedSets n (length d.z) d.up
-shaped n d none = by_tests (length d.y == n) (length d.up == n + length d.z) refl refl none
-  where
-    by_tests : (a b : Bool) → (length d.y == n) ≡ a → (length d.up == n + length d.z) ≡ b
-        → cond (not a) (Some n) (cond (not b) (Some (n + 1))
-        (least (λ i. not (is_up n (length d.z) i (slice_index d.up i))) (n + length d.z))) ≡ None
-        → (length d.y ≡ n) × AreNestedSets n (length d.z) d.up
-    by_tests true true ny nu off = search (rules, placed)
-    by_tests _ _ ny nu off = absurd cc
+shaped n d none = grind (arith, nat_tests, none, placed n (length d.z) d.up)
 
 -- A well shaped dual has no fault of the shape.
 no_shape_fault : (n : ℕ) (d : DualLists) → length d.y ≡ n → AreNestedSets n (length d.z) d.up → shape_fault n d ≡ None
@@ -102,18 +95,16 @@ pub none_short : (g : WeightedGraph) (d : DualLists) (sum : ℤ) → ((j : ℕ) 
 none_short g d sum off is = rw (least_none (is_short g d) (length g.edges) off, is) refl
 
 -- The verdict on a dual of the right shape, where tables of the sizes and of the numbers have been searched.
-pub shaped_verdict : (g : WeightedGraph) (d : DualLists) {n : ℕ} → n ≡ g.n → length d.y ≡ n
-    → AreNestedSets n (length d.z) d.up → (sizes table : List ℕ) (z : List ℤ) → AreSizes n d sizes → table ≡ sizes
-    → z ≡ d.z → (even negative : Option ℕ) → even ≡ least (λ k. not (is_odd_size (slice_index table k))) (length table)
+pub shaped_verdict : (g : WeightedGraph) {d : DualLists} {n : ℕ} {sizes table : List ℕ} {z : List ℤ}
+    {even negative : Option ℕ} → n ≡ g.n → length d.y ≡ n → AreNestedSets n (length d.z) d.up → AreSizes n d sizes
+    → table ≡ sizes → z ≡ d.z → even ≡ least (λ k. not (is_odd_size (slice_index table k))) (length table)
     → negative ≡ least (λ k. int_lt (slice_index_or z k (pos 0)) (pos 0)) (length z) → verdict g d ≡ refuse even
     (λ k. Even k (set_size g.n d k)) (refuse negative (λ k. Negative k) (short_or_yes g d (short_fault g d)))
-shaped_verdict g d over numbers nested sizes table z are whole all even negative found below =
+shaped_verdict g {d} {even} {negative} over numbers nested are whole all found below =
     let shape : shape_fault g.n d ≡ None = rw (← over) (no_shape_fault _ d numbers nested) in
-    let odd : even_fault g.n d ≡ even = sym (found ∙ ap (λ xs. least (λ k. not (is_odd_size (slice_index xs k)))
-    (length xs)) whole ∙ rw (are.count, ← over) (least_same _ _ (length d.z)
-    (λ k l. ap (λ s. not (is_odd_size s)) (are.each k l)))) in
-    let high : negative_fault d ≡ negative =
-    sym (below ∙ ap (λ xs. least (λ k. int_lt (slice_index_or xs k (pos 0)) (pos 0)) (length xs)) all) in
+    let odd : even_fault g.n d ≡ even =
+    rw (found, whole, are.count, ← over) (least_same _ _ (length d.z) (λ k l. rw (are.each k l) refl)) in
+    let high : negative_fault d ≡ negative = rw (below, all) refl in
     rw (shape, odd, high) refl
 
 -- The same of an answer that may want memory.

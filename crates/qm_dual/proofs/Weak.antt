@@ -1,5 +1,5 @@
 -- Weak duality: where a dual says yes, each perfect matching has twice its cost at least the dual's sum.
-use Rattle.std.proofs.Common.{rules, inl, inr, ◌≡◌, ℕ, ◌+◌, ◌*◌, ◌%◌, ◌<◌, ◌≤◌, Bool, true, cond, List, [], ◌∷◌, map}
+use Rattle.std.proofs.Common.{rules, ◌≡◌, ℕ, ◌+◌, ◌*◌, ◌%◌, ◌<◌, ◌≤◌, Bool, true, cond, List, [], ◌∷◌, map}
 use Rattle.std.proofs.Common.{length, ℤ, pos, ◌+ℤ◌, ◌*ℤ◌, ◌≤ℤ◌, refl, arith}
 use Rattle.std.proofs.{lemmas.Bool.cases_Bool, lemmas.Int.ints, lemmas.Bool.Decides.nat_tests}
 use Rattle.def_math.specs.{Counts.count, Counts.count_below, Sums.total, Sums.total_below, Increasing.IsIncreasing}
@@ -44,10 +44,8 @@ leaving_high s z (e ∷ es) high = grind (arith, ints, leaving_high s z es high)
 pub at_least_once : (s : ℕ → Bool) (z : ℤ) (es : List WEdge) → pos 0 ≤ℤ z → 1 ≤ count (leaving s) es
     → z ≤ℤ total (λ e. cond (crosses s e) z (pos 0)) es
 at_least_once s z [] high some = absurd (omega arith)
-at_least_once s z (e ∷ es) high some = elim (cases_Bool (crosses s e)) [
-  | inl on ↦ rw on (omega (arith, ints, leaving_high s z es high))
-  | inr off ↦ (let rest = rw off at some in rw off (omega (arith, ints, at_least_once s z es high (omega arith))))
-]
+at_least_once s z (e ∷ es) high some =
+    grind (arith, ints, cases_Bool (crosses s e), leaving_high s z es high, at_least_once s z es high, some)
 
 -- An odd set has a leaving edge in each perfect matching.
 pub odd_leaves : (s : ℕ → Bool) (n : ℕ) (es : List WEdge) → EndsBelow (λ (e : WEdge). e.u) (λ (e : WEdge). e.v) n es

@@ -1,21 +1,21 @@
 -- Counting along a range.
 use Rattle.std.proofs.Common.{rules, ◌≡◌, ℕ, zero, suc, ◌+◌, ◌<◌, ◌≤◌, Bool, true, false, cond, [], ◌∷◌, ◌++◌, length}
-use Rattle.std.proofs.Common.{map, ap, ◌∙◌, refl, arith, ◌≢◌, ◌⊎◌, ◌*◌, ◌/◌, eqb, List, get_or, set, Option, Some, None}
+use Rattle.std.proofs.Common.{map, ◌∙◌, refl, arith, ◌≢◌, ◌⊎◌, ◌*◌, ◌/◌, eqb, List, get_or, set, Option, Some, None}
 use Rattle.std.proofs.Common.{sym, inl, inr, ◌||◌}
-use Rattle.std.proofs.{lemmas.Bool.or_right, lemmas.Bool.or_cases, lemmas.Option.none-some, lemmas.Option.same_Some}
-use Rattle.std.proofs.lemmas.List.{length-append, get_or-set_same, get_or-set_other, length-set}
+use Rattle.std.proofs.lemmas.Bool.{or_right, cases_Bool, cases_eq, cases_lt, eq-eqb, eqb-true, or_left}
+use Rattle.std.proofs.lemmas.List.{length-append, nil_from_length, get_or-set_same, get_or-set_other, length-set}
 use Rattle.std.proofs.lemmas.List.Sums.{length-filter, count_by-le-length, sum_by-set}
-use Rattle.std.proofs.lemmas.Bool.{cases_Bool, cases_eq, cases_lt, eq-eqb, eqb-true, eqb-false, or_left, false≢true}
-use Rattle.std.proofs.lemmas.List.FromFn.{length-range_with_len, map-range_with_len_more}
 use Rattle.std.specs.List.{filter, range_with_len, list_any, count_by}
 use Rattle.def_mesh.specs.Components.{used_count, share_edge, is_marked, component_of}
-use Rattle.def_mesh.specs.{Faces.Faces, Meshes.IsMesh, Vertices.vertex_count, Darts.is_reverse, Darts.twin_of}
 use Rattle.list_laws.proofs.Filters.{filter_range_more, any_in_range, range_any}
 use Rattle.mesh_laws.proofs.Flood.{Shares, sound, closed, own_mark, share_back}
 use Rattle.mesh_laws.proofs.Chains.{reverse_twin, twin_reverse, twin_found, twin_is}
 use Rattle.qm_sing.specs.Floods.{IsNumbered, Waits, IsClosed, numbers_with, waiting_with, IsSpread, IsFlood, IsFlooded}
-use Rattle.{std.proofs.lemmas.List.Folds.list_any-append, def_mesh.specs.Manifold.IsManifold}
-use Rattle.qm_sing.specs.declared.flooding.TheConstants.{NONE}
+use Rattle.std.proofs.{lemmas.Bool.false≢true, lemmas.Option.none-some}
+use Rattle.std.proofs.{lemmas.Bool.Decides.nat_tests, lemmas.List.FromFn.length-range_with_len}
+use Rattle.std.proofs.{lemmas.List.FromFn.map-range_with_len_more, lemmas.List.Folds.list_any-append}
+use Rattle.def_mesh.specs.{Faces.Faces, Meshes.IsMesh, Vertices.vertex_count, Darts.is_reverse, Darts.twin_of}
+use Rattle.{qm_sing.specs.declared.flooding.TheConstants.NONE, def_mesh.specs.Manifold.IsManifold}
 
 -- At most all.
 pub filter_few : (p : ℕ → Bool) (n : ℕ) → length (filter p (range_with_len 0 n)) ≤ n
@@ -41,13 +41,13 @@ pub map_more : {X : Type 0} (f : ℕ → X) (n : ℕ) → map f (range_with_len 
     ++ f n ∷ []
 map_more f n = map-range_with_len_more f 0 n n (omega arith)
 
-pub filter_on : (p : ℕ → Bool) (n : ℕ) → p n ≡ true → filter p (range_with_len 0 (n + 1))
-    ≡ filter p (range_with_len 0 n) ++ n ∷ []
-filter_on p n is = filter_range_more p n ∙ ap (λ (b : Bool). filter p (range_with_len 0 n) ++ cond b (n ∷ []) []) is
+pub filter_on : (p : ℕ → Bool) (n : ℕ) {old : List ℕ} → p n ≡ true → old ≡ filter p (range_with_len 0 n)
+    → old ++ n ∷ [] ≡ filter p (range_with_len 0 (n + 1))
+filter_on p n is are = rw (are, filter_range_more p n, is) refl
 
-pub filter_off : (p : ℕ → Bool) (n : ℕ) → p n ≡ false → filter p (range_with_len 0 (n + 1))
-    ≡ filter p (range_with_len 0 n)
-filter_off p n is = search (rules, filter_range_more)
+pub filter_off : (p : ℕ → Bool) (n : ℕ) {old : List ℕ} → p n ≡ false → old ≡ filter p (range_with_len 0 n)
+    → old ≡ filter p (range_with_len 0 (n + 1))
+filter_off p n is are = search (rules, filter_range_more)
 
 -- A flood, face by face.
 
@@ -63,13 +63,7 @@ waits_new : (xs : List ℕ) (g : ℕ) → Waits (xs ++ g ∷ []) g
 waits_new xs g = one_came xs g g ∙ or_right _ _ (or_left _ _ (eq-eqb g g refl))
 
 waits_cases : (xs : List ℕ) (y g : ℕ) → Waits (xs ++ y ∷ []) g → Waits xs g ⊎ (y ≡ g)
-waits_cases xs y g w = elim (or_cases _ _ (sym (one_came xs y g) ∙ w)) [
-  | inl a ↦ inl a
-  | inr b ↦ inr (elim (or_cases (eqb y g) false b) [ inl c ↦ eqb-true y g c | inr d ↦ absurd (false≢true d) ])
-]
-
-is_none : (x : ℕ) → (x ≢ NONE → ⊥) → x ≡ NONE
-is_none x not_so = elim (cases_eq x NONE) [ inl q ↦ q | inr k ↦ absurd (not_so k) ]
+waits_cases xs y g w = grind (arith, nat_tests, one_came xs y g)
 
 -- One face more has its number.
 fewer : (numbers : List ℕ) (g component : ℕ) → g < length numbers → get_or numbers g 0 ≡ NONE → component ≢ NONE
@@ -91,7 +85,7 @@ shared_dart faces m f h lh s =
     (d, e, l, u, twin_found faces m.edges_once d e (reverse_twin faces d e (omega arith) r), omega arith)
 
 -- One side more.
-module _ {faces : Faces} {f component i : ℕ} {old now w0 w : List ℕ} (ne : component ≢ NONE) (less : i < 4)
+module _ {faces : Faces} {f component i : ℕ} {old now w0 w : List ℕ} (low : component < NONE) (less : i < 4)
     (lf : f < length faces) (s : IsSpread faces f component i old now w0 w) where
   unchanged : ((x : ℕ) → twin_of faces (4 * f + i) ≡ Some x → IsNumbered now (x / 4))
       → IsSpread faces f component (i + 1) old now w0 w
@@ -114,41 +108,27 @@ module _ {faces : Faces} {f component i : ℕ} {old now w0 w : List ℕ} (ne : c
     other : (h : ℕ) → h ≢ beside → get_or marked h 0 ≡ get_or now h 0
     other h differ = get_or-set_other now beside h component 0 differ
 
-    has : IsNumbered marked beside
-    has q = ne (sym value ∙ q)
-
-    still : (h : ℕ) → IsNumbered now h → IsNumbered marked h
-    still h k = elim (cases_eq h beside) [ inl q ↦ rw q has | inr differ ↦ rw (other h differ) k ]
-
     numbered : IsSpread faces f component (i + 1) old marked w0 (w ++ beside ∷ [])
     numbered = record {
       long = length-set now beside component ∙ s.long;
-      kept = λ h l k. other h (λ q. k (sym (s.kept h l k) ∙ (ap (λ y. get_or now y 0) q ∙ bare))) ∙ s.kept h l k;
-      fresh = λ h l k is_bare. elim (cases_eq h beside) [
-        | inl q ↦ rw q (value, shared_by faces f (4 * f + i) e (omega arith) (omega arith) is, waits_new w beside)
-        | inr differ ↦ let o = s.fresh h l (λ q. k (other h differ ∙ q)) is_bare in
-            (other h differ ∙ o.0, o.1, waits_old w beside h o.2)
-      ];
-      near = λ d x l h t. elim (cases_lt d (4 * f + i)) [
-        | inl a ↦ still (x / 4) (s.near d x l a t)
-        | inr b ↦ let q : 4 * f + i ≡ d = omega arith in
-            rw (← same_Some e x (sym is ∙ (ap (twin_of faces) q ∙ t))) has
-      ];
+      kept = λ h l k. grind (arith, cases_eq h beside, other h, s.kept h l k, bare);
+      fresh = λ h l k is_bare.
+          let o = s.fresh h l in
+          let side = shared_by faces f (4 * f + i) e (omega arith) (omega arith) is in
+          let new = waits_new w beside in
+          let kept = waits_old w beside h in
+          grind (arith, cases_eq h beside, value, other h, o, side, new, kept);
+      near = λ d x l h t.
+          let near = s.near d x l in
+          grind (arith, cases_lt d (4 * f + i), cases_eq (x / 4) beside, near, other (x / 4), value, is, t, low);
       waits = λ h k. waits_old w beside h (s.waits h k);
-      come = λ h k. elim (cases_eq h beside) [
-        | inl q ↦ inr (rw q (is_none _ (λ n. n (sym (s.kept beside g_low n) ∙ bare)), value))
-        | inr differ ↦ elim (waits_cases w beside h k) [
-          | inl a ↦ elim (s.come h a) [ inl b ↦ inl b | inr o ↦ inr (o.0, other h differ ∙ o.1) ]
-          | inr q ↦ absurd (differ (sym q))
-        ]
-      ];
+      come = λ h k.
+          let bare_old = s.kept beside g_low in
+          let cases = waits_cases w beside h k in
+          grind (arith, cases_eq h beside, cases, s.come h, value, other h, bare_old, bare);
       low = λ h k. elim (waits_cases w beside h k) [ inl a ↦ s.low h a | inr q ↦ rw (← q) g_low ];
-      less = omega (
-        arith,
-        s.less,
-        fewer now beside component (omega (arith, g_low, s.long)) bare ne,
-        length-append w (beside ∷ []),
-      );
+      less = let one = fewer now beside component (omega (arith, g_low, s.long)) bare (λ q. omega arith) in
+          omega (arith, s.less, length-append w (beside ∷ []));
     }
 
   pub spread_more : IsSpread faces f component (i + 1) old (numbers_with (twin_of faces (4 * f + i)) component now) w0
@@ -160,32 +140,20 @@ module _ {faces : Faces} {f component i : ℕ} {old now w0 w : List ℕ} (ne : c
       at None is = unchanged (λ x t. absurd (none-some x (sym is ∙ t)))
       at (Some e) is = elim (cases_Bool (eqb (get_or now (e / 4) 0) NONE)) [
         | inl on ↦ rw on (numbered e is (eqb-true (get_or now (e / 4) 0) NONE on))
-        | inr off ↦ rw off (unchanged (λ x t. rw (← same_Some e x (sym is ∙ t))
-            (eqb-false (get_or now (e / 4) 0) NONE off)))
+        | inr off ↦ rw off (unchanged (λ x t. grind (arith, nat_tests, off, is, t)))
       ]
 
 -- The first face has its number and waits.
 pub flood_none : {faces : Faces} {first component : ℕ} {old : List ℕ} (waiting : List ℕ) {more : List ℕ}
-    → first < length faces → get_or old first 0 ≡ NONE → length old ≡ length faces → component ≢ NONE
-    → length waiting ≡ 0 → more ≡ waiting ++ first ∷ []
-    → IsFlood faces first component old (set old first component) more
-flood_none (x ∷ xs) lf is long ne none e = absurd (omega arith)
-flood_none {faces} {first} {component} {old} [] lf is long ne none e = rw e (record {
+    → first < length faces → get_or old first 0 ≡ NONE → length old ≡ length faces → length waiting ≡ 0
+    → more ≡ waiting ++ first ∷ [] → IsFlood faces first component old (set old first component) more
+flood_none {faces} {first} {component} {old} waiting lf is long none e = rw (e, nil_from_length waiting none) (record {
   long = length-set old first component ∙ long;
   kept = λ g l k. other g (λ q. k (rw q is));
   begun = value;
-  fresh = λ g l k o. elim (cases_eq g first) [
-    | inl q ↦ rw q (value, own_mark faces first lf)
-    | inr differ ↦ absurd (k (other g differ ∙ o))
-  ];
-  done = λ g l k o. elim (cases_eq g first) [
-    | inl q ↦ inl (or_left _ _ (eq-eqb first g (sym q)))
-    | inr differ ↦ absurd (k (other g differ ∙ o))
-  ];
-  low = λ g w. elim (or_cases _ _ w) [
-    | inl a ↦ rw (← eqb-true first g a) (lf, value, is)
-    | inr b ↦ absurd (false≢true b)
-  ];
+  fresh = λ g l k o. grind (arith, cases_eq g first, value, own_mark faces first lf, other g);
+  done = λ g l k o. grind (arith, nat_tests, cases_eq g first, other g);
+  low = λ g w. grind (arith, nat_tests, cases_eq g first, value);
 })
   where
     value : get_or (set old first component) first 0 ≡ component
@@ -205,11 +173,10 @@ module _ {faces : Faces} {first component : ℕ} {old now waiting : List ℕ} (f
   pub taken_low : (f < length faces) × ((g : ℕ) → Waits rest g → g < length faces)
   taken_low = ((waited f (waits_new rest f)).0, λ g k. (waited g (waits_old rest f g k)).0)
 
-  module _ (m : IsManifold faces) {new more : List ℕ} (lf : first < length faces) (ne : component ≢ NONE)
+  module _ (m : IsManifold faces) {new more : List ℕ} (lf : first < length faces) (low : component < NONE)
       (s : IsSpread faces f component 4 now new rest more) where
     f_marked : is_marked (component_of faces first) f ≡ true
-    f_marked = let f_waits = waited f (waits_new rest f) in
-        (w.fresh f f_waits.0 (λ q. ne (sym f_waits.1 ∙ q)) f_waits.2).1
+    f_marked = let (l, has, bare) = waited f (waits_new rest f) in grind (arith, w.fresh f l, low)
 
     beside_f : (h : ℕ) → h < length faces → share_edge faces f h ≡ true → IsNumbered new h
     beside_f h l t = let (d, x, lo, hi, tw, q) = shared_dart faces m f h l t in rw (← q) (s.near d x lo hi tw)
@@ -217,12 +184,11 @@ module _ {faces : Faces} {first component : ℕ} {old now waiting : List ℕ} (f
     pub flood_more : IsFlood faces first component old new more
     flood_more = record {
       long = s.long;
-      kept = λ g l k. s.kept g l (λ q. k (sym (w.kept g l k) ∙ q)) ∙ w.kept g l k;
-      begun = s.kept first lf (λ q. ne (sym w.begun ∙ q)) ∙ w.begun;
-      fresh = λ g l k o. elim (cases_eq (get_or now g 0) NONE) [
-        | inl bare ↦ let t = s.fresh g l k bare in (t.0, closed faces first f g lf taken_low.0 l f_marked t.1)
-        | inr has ↦ let t = w.fresh g l has o in (s.kept g l has ∙ t.0, t.1)
-      ];
+      kept = λ g l k. grind (arith, w.kept g l k, s.kept g l);
+      begun = grind (arith, w.begun, s.kept first lf, low);
+      fresh = λ g l k o.
+          let near = closed faces first f g lf taken_low.0 l f_marked in
+          grind (arith, cases_eq (get_or now g 0) NONE, s.fresh g l k, w.fresh g l, s.kept g l, near);
       done = λ g l k o. elim (cases_eq (get_or now g 0) NONE) [
         | inl bare ↦ inl (s.fresh g l k bare).2
         | inr has ↦ elim (w.done g l has o) [
@@ -230,32 +196,31 @@ module _ {faces : Faces} {first component : ℕ} {old now waiting : List ℕ} (f
             | inl b ↦ inl (s.waits g b)
             | inr q ↦ inr (λ h lh t. beside_f h lh (rw q t))
           ]
-          | inr b ↦ inr (λ h lh t. let k = b h lh t in λ q. k (sym (s.kept h lh k) ∙ q))
+          | inr b ↦ inr (λ h lh t. grind (arith, b h lh t, s.kept h lh))
         ]
       ];
-      low = λ g k. elim (s.come g k) [
-        | inl a ↦ let t = waited g (waits_old rest f g a) in
-            (t.0, s.kept g t.0 (λ q. ne (sym t.1 ∙ q)) ∙ t.1, t.2)
-        | inr b ↦ (s.low g k, b.1, is_none _ (λ has. has (sym (w.kept g (s.low g k) has) ∙ b.0)))
-      ];
+      low = λ g k.
+          let old = waits_old rest f g in
+          grind (arith, s.come g k, waited g, old, s.low g k, s.kept g, w.kept g, cases_eq (get_or now g 0) NONE, low);
     }
 
 -- Nobody waits.
 pub flood_over : {faces : Faces} {first component : ℕ} {old now waiting : List ℕ} → first < length faces
-    → get_or old first 0 ≡ NONE → component ≢ NONE → IsClosed faces old → length waiting ≡ 0
+    → get_or old first 0 ≡ NONE → component < NONE → IsClosed faces old → length waiting ≡ 0
     → IsFlood faces first component old now waiting → IsFlooded faces first component old now
-flood_over {waiting = x ∷ xs} lf is ne shut none w = absurd (omega arith)
-flood_over {faces} {first} {component} {old} {now} {waiting = []} lf is ne shut none w = record {
+flood_over {faces} {first} {component} {old} {now} {waiting} lf is low shut none w = record {
   long = w.long;
   kept = w.kept;
   fresh = w.fresh;
   all = λ g l k. let c = sound faces first (length faces) g lf l k in (reach g c.0 c.1).0;
 }
   where
+    nobody : (g : ℕ) → Waits waiting g → ⊥
+    nobody g a = false≢true (rw (nil_from_length waiting none) at a)
+
     reach : (g n : ℕ) → Shares faces first g n → IsNumbered now g × (get_or old g 0 ≡ NONE)
-    reach g zero s = rw (← s) (λ q. ne (sym w.begun ∙ q), is)
+    reach g zero s = rw (← s) (λ q. absurd (omega (arith, w.begun)), is)
     reach g (suc n) s =
-        let p = reach s.0 n s.1 in (
-          elim (w.done s.0 s.2 p.0 p.1) [ inl a ↦ absurd (false≢true a) | inr b ↦ b g s.3 s.4 ],
-          is_none _ (λ has. shut g s.0 s.3 s.2 has (share_back faces s.0 g s.4) p.1),
-        )
+        let p = reach s.0 n s.1 in
+        let back = share_back faces s.0 g s.4 in
+        grind (arith, p, w.done s.0 s.2, nobody s.0, shut g s.0 s.3 s.2, back, s.3, s.4, cases_eq (get_or old g 0) NONE)

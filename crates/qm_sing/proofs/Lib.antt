@@ -1,5 +1,4 @@
 mod Floods
 pub mod Numberings
-mod Seeds
 mod Walking
 mod Longest

@@ -1,19 +1,18 @@
 -- A walk onward from the end of a walk back is a longest run, and with it the runs of one dart more are found.
-use Rattle.std.proofs.Common.{rules, ◌≡◌, ◌≢◌, ℕ, zero, suc, ◌+◌, ◌-◌, ◌<◌, ◌≤◌, Bool, true, false, Some, List, [], ◌∷◌}
-use Rattle.std.proofs.Common.{◌++◌, length, replicate, get_or, sym, ap, ◌∙◌, refl, inl, inr, arith, ◌/◌, map}
+use Rattle.std.proofs.Common.{rules, ◌≡◌, ◌≢◌, ◌⊎◌, ℕ, zero, suc, ◌+◌, ◌-◌, ◌<◌, ◌≤◌, Bool, true, false, Some, List, []}
+use Rattle.std.proofs.Common.{◌∷◌, ◌++◌, length, replicate, get_or, sym, ap, ◌∙◌, refl, inl, inr, arith, ◌/◌, map}
 use Rattle.std.proofs.lemmas.List.{length-append, length-replicate, map-append, get_or_append_left, get_or-append-add}
-use Rattle.std.proofs.lemmas.List.{get_or-replicate, length-map}
-use Rattle.std.proofs.{lemmas.Option.none-some, lemmas.Option.same_Some, lemmas.Bool.cases_Bool, lemmas.Bool.cases_eq}
-use Rattle.std.proofs.{lemmas.Bool.cases_lt, lemmas.Bool.eq-eqb, lemmas.List.FromFn.length-range_with_len}
-use Rattle.def_mesh.specs.Components.{component_numbers, least_face, least_faces, place_among}
-use Rattle.def_mesh.specs.{Faces.Faces, Faces.all_faces, Darts.darts, Manifold.IsManifold, Kinds.kind_of}
-use Rattle.def_mesh.specs.{Vertices.all_vertices, Vertices.vertex_count, declared.Kind.Kind}
-use Rattle.def_runs.specs.Runs.{HasDart, IsBefore, IsLongestRun, first_dart, follower, is_closed, last_dart, nth_run}
-use Rattle.{cut_laws.proofs.Pigeon.sent_or_not, qm_sing.proofs.Seeds.number_low, qm_sing.proofs.Seeds.number_read}
+use Rattle.std.proofs.lemmas.Bool.{cases_Bool, cases_eq, cases_lt}
+use Rattle.def_runs.specs.Runs.{IsLongestRun, first_dart, follower, is_closed, last_dart, nth_run}
 use Rattle.qm_sing.specs.Walks.{AreRunsBelow, AreRunsSoFar, IsBack, IsLine, leader, walked}
-use Rattle.qm_sing.specs.{declared.flooding.TheConstants.NONE, declared.lines.Line.Line}
 use Rattle.qm_sing.proofs.Walking.{back_of, follows, leads, on_from, places_differ, walk_low, walk_list, walk_long}
-use Rattle.qm_sing.proofs.Walking.{walk_at, holds_at}
+use Rattle.std.proofs.{lemmas.List.get_or-replicate, lemmas.List.length-map, lemmas.Option.none-some}
+use Rattle.std.proofs.{lemmas.Option.same_Some, lemmas.Bool.Decides.nat_tests, lemmas.List.FromFn.length-range_with_len}
+use Rattle.def_mesh.specs.{Components.component_numbers, Components.least_faces, Faces.Faces, Darts.darts}
+use Rattle.def_mesh.specs.{Manifold.IsManifold, Kinds.kind_of, Vertices.all_vertices, Vertices.vertex_count}
+use Rattle.qm_sing.proofs.{Numberings.number_low, Numberings.number_read, Walking.walk_at, Walking.holds_at}
+use Rattle.{qm_sing.specs.declared.flooding.TheConstants.NONE, qm_sing.specs.declared.lines.Line.Line}
+use Rattle.{cut_laws.proofs.Pigeon.sent_or_not, def_mesh.specs.declared.Kind.Kind, list_laws.proofs.Filters.last_or}
 
 -- A walk onward from the end of a walk back is a longest run.
 module _ {faces : Faces} (m : IsManifold faces) {d first r : ℕ} {line : Line} {run_old run at_old at : List ℕ}
@@ -50,43 +49,25 @@ module _ {faces : Faces} (m : IsManifold faces) {d first r : ℕ} {line : Line} 
         (back.steps, omega arith, on_from m (behind back.steps) d (behind_low back.steps (omega arith)) round)
     goes_round (suc i) h = (i, omega arith, undone i (omega arith))
 
-    within : (j : ℕ) → j ≤ on.last → (i : ℕ) × (i ≤ back.steps) × (ahead j ≡ behind i)
-    within zero l = (0, omega arith, same)
-    within (suc j) l =
-        let (i, h, e) = within j (omega arith) in
-        let (k, lk, next) = goes_round i h in
-        (k, lk, same_Some _ _ (sym (on.goes j (omega arith)) ∙ (ap (follower faces) e ∙ next)))
+    -- So the walk onward goes on.
+    goes_on : (j : ℕ) → j ≤ on.last → (k : ℕ) × (k ≤ back.steps) × (follower faces (ahead j) ≡ Some (behind k))
+    goes_on zero l = rw same (goes_round 0 (omega arith))
+    goes_on (suc j) l = let (k, h, is) = goes_on j (omega arith) in
+        rw (same_Some _ _ (sym (on.goes j (omega arith)) ∙ is)) (goes_round k h)
 
     not_open : line.closed ≡ false → ⊥
-    not_open off =
-        let (i, h, e) = within on.last (omega arith) in
-        let (k, lk, next) = goes_round i h in
-        none-some (behind k) (sym (on.opens off) ∙ (ap (follower faces) e ∙ next))
+    not_open off = let (k, h, is) = goes_on on.last (omega arith) in none-some (behind k) (sym (on.opens off) ∙ is)
 
-  -- A closed run was met again on the way back.
+  -- What leads to the first dart was met again on the way back.
+  met_again : (e : ℕ) → e < darts faces → follower faces e ≡ Some first
+      → (first ≡ d) × (leader faces (behind back.steps) ≡ Some d)
+  met_again e l is = elim back.stops [
+    | inl s ↦ absurd (none-some e (sym s.0 ∙ back_of m e first l is))
+    | inr s ↦ s
+  ]
+
   closed_at : line.closed ≡ true → first ≡ d
-  closed_at shut = elim back.stops [
-    | inl e ↦ absurd (none-some (ahead on.last) (sym e.0
-        ∙ back_of m (ahead on.last) first (ahead_low on.last (omega arith)) (on.closes shut)))
-    | inr e ↦ e.0
-  ]
-
-  -- What the first dart follows stands in the run.
-  begins_at : (e : ℕ) → e < darts faces → follower faces e ≡ Some first → HasDart trail e
-  begins_at e l is = elim (cases_Bool line.closed) [
-    | inl shut ↦ holds_at ahead on.last on.last e (omega arith)
-        ((follows m).once (ahead on.last) e first (ahead_low on.last (omega arith)) l (on.closes shut) is)
-    | inr off ↦ elim back.stops [
-      | inl s ↦ absurd (none-some e (sym s.0 ∙ back_of m e first l is))
-      | inr s ↦ absurd (not_open s.1 s.0 off)
-    ]
-  ]
-
-  ends_at : (e : ℕ) → follower faces (ahead on.last) ≡ Some e → HasDart trail e
-  ends_at e is = elim (cases_Bool line.closed) [
-    | inl shut ↦ holds_at ahead on.last 0 e (omega arith) (same_Some first e (sym (on.closes shut) ∙ is))
-    | inr off ↦ absurd (none-some e (sym (on.opens off) ∙ is))
-  ]
+  closed_at shut = (met_again (ahead on.last) (ahead_low on.last (omega arith)) (on.closes shut)).0
 
   short : (k : ℕ) → k < length trail → k < suc on.last
   short k l = omega (arith, walk_long ahead on.last)
@@ -100,17 +81,20 @@ module _ {faces : Faces} (m : IsManifold faces) {d first r : ℕ} {line : Line} 
     low = λ k l. rw (stands k l) (ahead_low k (omega (arith, short k l)));
     differ = λ i j l h e. places_differ (follows m) first back.first_low on.last on.goes on.away i j l
         (omega (arith, short j h)) (sym (stands i (omega arith)) ∙ (e ∙ stands j h));
-    straight = λ k l. ap (follower faces) (stands k (omega arith))
-        ∙ (on.goes k (omega (arith, short (suc k) l)) ∙ ap Some (sym (stands (suc k) l)));
-    ends = λ e is. ends_at e (ap (follower faces) (sym last_at) ∙ is);
-    begins = λ e l is. begins_at e l (is ∙ ap Some first_at);
+    straight = λ k l. grind (arith, stands k, stands (suc k), on.goes k, short (suc k) l);
+    ends = λ e is.
+        let begin = holds_at ahead on.last 0 e (omega arith) in
+        grind (arith, cases_Bool line.closed, begin, on.closes, on.opens, last_at, is);
+    begins = λ e l is.
+        let from : follower faces e ≡ Some first = is ∙ ap Some first_at in
+        let last = holds_at ahead on.last on.last e (omega arith) in
+        let once = (follows m).once (ahead on.last) e first (ahead_low on.last (omega arith)) l in
+        let met = met_again e l from in
+        grind (arith, cases_Bool line.closed, last, once, on.closes, from, not_open met.1 met.0);
   }
 
   pub closed_is : is_closed faces trail ≡ line.closed
-  closed_is = rw (last_at, first_at) (elim (cases_Bool line.closed) [
-    | inl shut ↦ rw (on.closes shut) (eq-eqb first first refl ∙ sym shut)
-    | inr off ↦ rw (on.opens off) (sym off)
-  ])
+  closed_is = grind (arith, nat_tests, cases_Bool line.closed, last_at, first_at, on.closes, on.opens)
 
   -- The walk onward goes the way back.
   along : first ≡ behind back.steps → (j i : ℕ) → j + i ≡ back.steps → j ≤ on.last → ahead j ≡ behind i
@@ -120,27 +104,22 @@ module _ {faces : Faces} (m : IsManifold faces) {d first r : ℕ} {line : Line} 
   too_short : first ≡ behind back.steps → (i : ℕ) → on.last + suc i ≡ back.steps → ⊥
   too_short e i s =
       let next = ap (follower faces) (along e on.last (suc i) s (omega arith)) ∙ undone i (omega arith) in
-      elim (cases_Bool line.closed) [
-        | inl shut ↦ places_differ (leads m) d low back.steps back.goes back.away i back.steps (omega arith)
-            (omega arith) (same_Some _ _ (sym next ∙ on.closes shut) ∙ e)
-        | inr off ↦ none-some (behind i) (sym (on.opens off) ∙ next)
-      ]
+      let apart = places_differ (leads m) d low back.steps back.goes back.away i back.steps in
+      grind (arith, cases_Bool line.closed, on.closes, on.opens, next, apart, e)
 
   -- The dart with which the walk back began stands in the run.
   pub d_stands : (k : ℕ) × (k < suc on.last) × (ahead k ≡ d)
-  d_stands = elim back.stops [
-    | inl e ↦ elim (cases_lt on.last back.steps) [
-      | inl l ↦ absurd (too_short e.1 (back.steps - suc on.last) (omega arith))
-      | inr l ↦ (back.steps, omega arith, along e.1 back.steps 0 (omega arith) l)
-    ]
-    | inr e ↦ (0, omega arith, e.0)
-  ]
+  d_stands =
+      let short = λ (e : first ≡ behind back.steps). too_short e (back.steps - suc on.last) in
+      let there = λ (e : first ≡ behind back.steps). along e back.steps 0 (omega arith) in
+      grind (arith, back.stops, cases_lt on.last back.steps, short, there)
 
 -- In whole runs, a dart with its number leads to darts with numbers.
 module _ {faces : Faces} (m : IsManifold faces) {d : ℕ} {run at : List ℕ} {lists : List (List ℕ)}
     (found : AreRunsBelow faces d run at lists) (few : length lists ≤ NONE) where
-  held : (r e : ℕ) → r < length lists → HasDart (nth_run lists r) e → get_or run e 0 ≢ NONE
-  held r e l (k, h, s) off = absurd (omega (arith, (found.told r k l h).0, ap (λ (x : ℕ). get_or run x 0) s))
+  held : (r : ℕ) → r < length lists → (k : ℕ) → k < length (nth_run lists r)
+      → get_or run (get_or (nth_run lists r) k 0) 0 ≢ NONE
+  held r l k h off = omega (arith, (found.told r k l h).0)
 
   fresh_where : (y : ℕ) → y < darts faces → ((r k : ℕ) → r < length lists → k < length (nth_run lists r)
       → get_or (nth_run lists r) k 0 ≡ y → ⊥) → get_or run y 0 ≡ NONE
@@ -152,9 +131,10 @@ module _ {faces : Faces} (m : IsManifold faces) {d : ℕ} {run at : List ℕ} {l
   before_fresh x y l is fresh = fresh_where y ((leads m).low x y l is) (λ r k lr lk s.
       let next = ap (follower faces) s ∙ on_from m x y l is in
       elim (cases_lt (suc k) (length (nth_run lists r))) [
-        | inl more ↦ held r x lr (suc k, more, same_Some _ _ (sym ((found.runs r lr).straight k more) ∙ next)) fresh
-        | inr last ↦ let e : length (nth_run lists r) - 1 ≡ k = omega arith in
-            held r x lr ((found.runs r lr).ends x (rw e next)) fresh
+        | inl more ↦ grind (arith, (found.runs r lr).straight k more, held r lr (suc k) more, next, fresh)
+        | inr last ↦
+            let e : length (nth_run lists r) - 1 ≡ k = omega arith in
+            let (j, h, t) = (found.runs r lr).ends x (rw e next) in held r lr j h (rw t fresh)
       ])
 
   pub after_fresh : (x y : ℕ) → x < darts faces → follower faces x ≡ Some y → get_or run x 0 ≡ NONE
@@ -162,13 +142,11 @@ module _ {faces : Faces} (m : IsManifold faces) {d : ℕ} {run at : List ℕ} {l
   after_fresh x y l is fresh = fresh_where y ((follows m).low x y l is) by_place
     where
       by_place : (r k : ℕ) → r < length lists → k < length (nth_run lists r) → get_or (nth_run lists r) k 0 ≡ y → ⊥
-      by_place r zero lr lk s = held r x lr ((found.runs r lr).begins x l (is ∙ ap Some (sym s))) fresh
-      by_place r (suc k) lr lk s = held r x lr (
-        k,
-        omega arith,
-        (follows m).once _ x y
-            ((found.runs r lr).low k (omega arith)) l ((found.runs r lr).straight k lk ∙ ap Some s) is,
-      ) fresh
+      by_place r zero lr lk s = grind (arith, (found.runs r lr).begins x l, held r lr, is, s, fresh)
+      by_place r (suc k) lr lk s =
+          let it = found.runs r lr in
+          let same = (follows m).once (get_or (nth_run lists r) k 0) x y (it.low k (omega arith)) l in
+          grind (arith, it.straight k lk, same, held r lr k, is, s, fresh)
 
 -- One run more is found.
 module _ {faces : Faces} (m : IsManifold faces) {d first : ℕ} {line : Line} {run_old run at_old at len : List ℕ}
@@ -185,9 +163,6 @@ module _ {faces : Faces} (m : IsManifold faces) {d first : ℕ} {line : Line} {r
   abbrev lists : List (List ℕ)
   lists = so.lists ++ new ∷ []
 
-  few : length so.lists ≤ NONE
-  few = omega (arith, so.few)
-
   long : length lists ≡ suc (length so.lists)
   long = length-append so.lists (new ∷ []) ∙ omega arith
 
@@ -198,33 +173,27 @@ module _ {faces : Faces} (m : IsManifold faces) {d first : ℕ} {line : Line} {r
   new_at = let e : length so.lists + 0 ≡ length so.lists = omega arith in
       ap (nth_run lists) (sym e) ∙ get_or-append-add so.lists (new ∷ []) 0 []
 
-  -- What holds of each run found before and of the new one holds of each.
-  each_more : (P : ℕ → List ℕ → Type 0) → ((r : ℕ) → r < length so.lists → P r (nth_run so.lists r))
-      → P (length so.lists) new → (r : ℕ) → r < length lists → P r (nth_run lists r)
-  each_more P each last r l = elim (cases_eq r (length so.lists)) [
-    | inl e ↦ rw (e, new_at) last
-    | inr ne ↦ let h : r < length so.lists = omega (arith, long) in rw (old_at r h) (each r h)
-  ]
+  -- Each run was found before, or is the new one.
+  place : (r : ℕ) → r < length lists → ((r < length so.lists) × (nth_run lists r ≡ nth_run so.lists r))
+      ⊎ ((r ≡ length so.lists) × (nth_run lists r ≡ new))
+  place r l = grind (arith, cases_eq r (length so.lists), new_at, long, old_at r)
 
   -- No dart of the new run had a number.
   behind_fresh : (k : ℕ) → k ≤ back.steps → get_or run_old (walked (leader faces) d k) 0 ≡ NONE
   behind_fresh zero l = fresh
-  behind_fresh (suc k) l = before_fresh m so.found few _ _ (behind_low m low back on k (omega arith))
-      (back.goes k (omega arith)) (behind_fresh k (omega arith))
+  behind_fresh (suc k) l = before_fresh m so.found (omega (arith, so.few)) _ _
+      (behind_low m low back on k (omega arith)) (back.goes k (omega arith)) (behind_fresh k (omega arith))
 
   ahead_fresh : (k : ℕ) → k ≤ on.last → get_or run_old (onward k) 0 ≡ NONE
-  ahead_fresh zero l = elim back.stops [ inl e ↦ rw e.1 (behind_fresh back.steps (omega arith)) | inr e ↦ rw e.0 fresh ]
-  ahead_fresh (suc k) l = after_fresh m so.found few _ _ (ahead_low m low back on k (omega arith))
+  ahead_fresh zero l = grind (arith, back.stops, behind_fresh back.steps (omega arith), fresh)
+  ahead_fresh (suc k) l = after_fresh m so.found (omega (arith, so.few)) _ _ (ahead_low m low back on k (omega arith))
       (on.goes k (omega arith)) (ahead_fresh k (omega arith))
 
   -- So each of them is d or greater.
   list_high : (k : ℕ) → k < length new → d ≤ get_or new k 0
   list_high k l =
-      let h : k < suc on.last = omega (arith, walk_long onward on.last) in
-      elim (cases_lt (onward k) d) [
-        | inl below ↦ absurd (so.found.all (onward k) below (ahead_fresh k (omega arith)))
-        | inr high ↦ omega (arith, walk_at onward on.last k h)
-      ]
+      let at = walk_at onward on.last k in
+      grind (arith, cases_lt (onward k) d, so.found.all (onward k), ahead_fresh k, at, walk_long onward on.last)
 
   -- A dart that had a number keeps it.
   kept_at : (e : ℕ) → get_or run_old e 0 ≢ NONE → (get_or run e 0 ≡ get_or run_old e 0)
@@ -237,9 +206,7 @@ module _ {faces : Faces} (m : IsManifold faces) {d first : ℕ} {line : Line} {r
 
   told_new : (k : ℕ) → k < length new
       → (get_or run (get_or new k 0) 0 ≡ length so.lists) × (get_or at (get_or new k 0) 0 ≡ k)
-  told_new k l =
-      let h : k < suc on.last = omega (arith, walk_long onward on.last) in
-      rw (walk_at onward on.last k h) (on.told.told k h)
+  told_new k l = grind (arith, walk_at onward on.last k, on.told.told k, walk_long onward on.last)
 
   there : (e : ℕ) → e < darts faces → get_or run e 0 ≢ NONE → (get_or run e 0 < length lists)
       × (get_or at e 0 < length (nth_run lists (get_or run e 0)))
@@ -247,45 +214,35 @@ module _ {faces : Faces} (m : IsManifold faces) {d first : ℕ} {line : Line} {r
   there e l ne = elim (sent_or_not onward e (suc on.last)) [
     | inl t ↦
         let told = on.told.told t.0 t.1 in
-        let r : get_or run e 0 ≡ length so.lists = ap (λ (x : ℕ). get_or run x 0) (sym t.2) ∙ told.0 in
-        let a : get_or at e 0 ≡ t.0 = ap (λ (x : ℕ). get_or at x 0) (sym t.2) ∙ told.1 in
-        rw (r, a, new_at)
-        (omega (arith, long), omega (arith, t.1, walk_long onward on.last), walk_at onward on.last t.0 t.1 ∙ t.2)
-    | inr other ↦
-        let same = on.told.kept e other in
-        let old = so.found.there e l (λ s. ne (same.0 ∙ s)) in
-        rw (same.0, same.1, old_at (get_or run_old e 0) old.0) (omega (arith, old.0, long), old.1, old.2)
+        let stands = walk_at onward on.last t.0 t.1 in
+        grind (arith, told, new_at, long, stands, walk_long onward on.last)
+    | inr other ↦ let same = on.told.kept e other in
+        grind (arith, same, so.found.there e l, old_at (get_or run_old e 0), long)
   ]
 
   all : (e : ℕ) → e < d + 1 → get_or run e 0 ≢ NONE
-  all e l none = elim (cases_eq e d) [
-    | inl s ↦ let (k, h, t) = d_stands m low back on in
-        absurd (omega (arith, ap (λ (x : ℕ). get_or run x 0) (t ∙ sym s), (on.told.told k h).0, so.few))
-    | inr ne ↦ let old = so.found.all e (omega arith) in old (sym (kept_at e old).0 ∙ none)
-  ]
+  all e l none =
+      let (k, h, t) = d_stands m low back on in
+      let told = on.told.told k h in
+      grind (arith, last_or d e l, so.found.all e, kept_at e, told, t, so.few)
 
   pub one_more : AreRunsSoFar faces (d + 1) run at (len ++ line.len ∷ []) (closed ++ line.closed ∷ [])
   one_more = record {
     lists = lists;
     few = omega (arith, long, so.few);
     found = record {
-      runs = each_more (λ x xs. IsLongestRun faces xs) so.found.runs (longest m low back on);
-      least = λ r k l c h. each_more (λ x xs. is_closed faces xs ≡ true → (j : ℕ) → j < length xs → first_dart xs
-          ≤ get_or xs j 0) (λ x b e j t. so.found.least x j b e t) (λ shut j t. omega (
-            arith,
-            first_at m low back on,
-            closed_at m low back on (sym (closed_is m low back on) ∙ shut),
-            list_high j t,
-          )) r l c k h;
-      increasing = λ q r less l. each_more (λ x xs. (p : ℕ) → p < x → IsBefore (nth_run lists p) xs)
-          (λ x b p t. rw (old_at p (omega arith)) (so.found.increasing p x t b))
-          (λ p t. let (k, h, b) = so.found.below p t in
-          rw (old_at p t) (k, h, λ j s. omega (arith, b, list_high j s))) r l q less;
-      below = each_more (λ x xs. (k : ℕ) × (k < length xs) × (get_or xs k 0 < d + 1))
-          (λ x b. let (k, h, t) = so.found.below x b in (k, h, omega arith)) (let (k, h, t) = d_stands m low back on in
-          (k, omega (arith, walk_long onward on.last), omega (arith, walk_at onward on.last k h)));
-      told = λ r k l h. each_more (λ x xs. (j : ℕ) → j < length xs → (get_or run (get_or xs j 0) 0 ≡ x)
-          × (get_or at (get_or xs j 0) 0 ≡ j)) told_old told_new r l k h;
+      runs = λ r l. grind (arith, place r l, so.found.runs r, longest m low back on);
+      least = λ r k l c h.
+          let begin = first_at m low back on in
+          let same = closed_is m low back on in
+          grind (arith, place r l, so.found.least r k, begin, same, closed_at m low back on, list_high k, c, h);
+      increasing = λ q r less l.
+          let before = so.found.below q in
+          grind (arith, place q (omega arith), place r l, so.found.increasing q r, before, list_high);
+      below = λ r l.
+          let at = walk_at onward on.last in
+          grind (arith, place r l, so.found.below r, d_stands m low back on, at, walk_long onward on.last);
+      told = λ r k l h. grind (arith, place r l, told_old r, told_new k, h);
       there = there;
       all = all;
     };
@@ -303,9 +260,8 @@ passed_by {d} {run} old so = record {
   few = omega (arith, so.few);
   found =
       let below : (r : ℕ) → r < length so.lists → (k : ℕ) × (k < length (nth_run so.lists r))
-      × (get_or (nth_run so.lists r) k 0 < d + 1) = λ r l. let (k, h, b) = so.found.below r l in (k, h, omega arith) in
-      let all : (e : ℕ) → e < d + 1 → get_or run e 0 ≢ NONE = λ e l. elim (cases_eq e d)
-      [ inl s ↦ rw s old | inr ne ↦ so.found.all e (omega arith) ] in
+      × (get_or (nth_run so.lists r) k 0 < d + 1) = λ r l. grind (arith, so.found.below r l) in
+      let all : (e : ℕ) → e < d + 1 → get_or run e 0 ≢ NONE = λ e l. grind (arith, last_or d e l, so.found.all e) in
       assumption (below, all);
   run_long = so.run_long;
   at_long = so.at_long;
@@ -322,21 +278,11 @@ none_found faces run at is_run is_at = search (rules, get_or-replicate, length-r
 
 module _ (faces : Faces) where
   pub numbers_long : {numbers : List ℕ} → numbers ≡ component_numbers faces → length numbers ≡ length faces
-  numbers_long are = omega (
-    arith,
-    ap length are,
-    length-map (all_faces faces) (λ f. place_among (least_faces faces) (least_face faces f)),
-    length-range_with_len 0 (length faces),
-  )
+  numbers_long are = simp (are, length-map, length-range_with_len)
 
   pub kinds_long : {kinds : List Kind} → kinds ≡ map (kind_of faces) (all_vertices faces)
       → length kinds ≡ vertex_count faces
-  kinds_long are = omega (
-    arith,
-    ap length are,
-    length-map (all_vertices faces) (kind_of faces),
-    length-range_with_len 0 (vertex_count faces),
-  )
+  kinds_long are = simp (are, length-map, length-range_with_len)
 
   -- The number of a dart's component is one of them.
   pub number_there : IsManifold faces → {numbers : List ℕ} → numbers ≡ component_numbers faces → {d : ℕ}

@@ -10,5 +10,4 @@ returns-in-Some-cut_word-2 c = search (rules, stripped)
 
 pub returns-in-None : goal.returns-in-None
 returns-in-None c = let first = c.in-Some-cut_word.ensures in
-    no_floor _ _ _ _ _ (stripped _ _ _ c.in-Some.ensures.cases.0 c.in-Some.ensures.cases.1) first.0 first.1
-    c.in-None.ensures
+    no_floor (stripped _ _ _ c.in-Some.ensures.cases.0 c.in-Some.ensures.cases.1) _ _ first.0 first.1 c.in-None.ensures

@@ -2,8 +2,7 @@ use Rattle.qm_certtext.proofs.Cutting.{asked_cut, asked_read}
 use Rattle.qm_certtext.proofs.head.read_asked.Goals as goal
 
 pub returns-in-Some : goal.returns-in-Some
-returns-in-Some c = asked_read c.args.prefix.now c.args.line.now c.in-Some.words.scale.now c.in-Some.words.floor.now
-    c.in-Some.words.weight.now c.read_settings.result c.in-Some.ensures c.read_settings.ensures
+returns-in-Some c = asked_read c.read_settings.result c.in-Some.ensures c.read_settings.ensures
 
 pub returns-in-None : goal.returns-in-None
 returns-in-None c settings auto range is =

@@ -1,5 +1,5 @@
 use Rattle.std.proofs.Common.{rules, refl, arith}
-use Rattle.qm_certtext.proofs.Found.{found_kept, found_more}
+use Rattle.qm_certtext.proofs.Found.{found_old, found_more}
 use Rattle.qm_io.proofs.Cuts.{cut_behind, cut_ended, cut_is, cut_there, lines_few, rest_low, whole_tail}
 use Rattle.qm_certtext.proofs.last.find_last.Goals as goal
 
@@ -28,4 +28,4 @@ pub returns-clause-last : goal.returns-clause-last
 returns-clause-last c = search (rules, cut_ended)
 
 pub returns-clause-old : goal.returns-clause-old
-returns-clause-old c = (found_kept c.args.prefix.now c.args.bytes.now c.lines.i c.lines.found c.lines.invariant.found).1
+returns-clause-old c = found_old c.args.prefix.now c.args.bytes.now c.lines.i c.lines.found c.lines.invariant.found

@@ -1,13 +1,9 @@
-use Rattle.std.proofs.Common.{◌≡◌, ◌^◌, ◌<◌, ℤ, pos, ◌*ℤ◌, ◌∙◌, below_more, rules, arith}
-use Rattle.std.proofs.lemmas.Int.{to_z-of_z}
+use Rattle.std.proofs.Common.{◌≡◌, pos, ◌*ℤ◌, below_more, rules, arith}
+use Rattle.std.proofs.lemmas.Int.{ints}
 use mir.{Syntax.w128, Val.to_z, Val.of_z}
-use lib.Signed.{mag}
 use Rattle.def_matching.specs.{Matching.edge_at, Dual.dual, Dual.load}
 use Rattle.qm_dual.proofs.{Verdicts.short_found, Verdicts.none_short, loads.check_loads.Goals.After-from-cost}
 use Rattle.qm_dual.proofs.loads.check_loads.Goals as goal
-
-plain : (z : ℤ) → mag z < 2 ^ 127 → to_z w128 (of_z w128 z) ≡ z
-plain z small = to_z-of_z w128 z (record { sfits = small })
 
 -- Twice the cost and the load, as they are computed.
 told : (c : After-from-cost) → (to_z w128 (of_z w128 (pos 2 *ℤ to_z w128 (of_z w128 c.from-cost.result)))
@@ -33,4 +29,4 @@ pub returns : goal.returns
 returns c = none_short c.args.judged.now.g.now.graph (dual c.args.judged.now.d.whole.now)
     (to_z w128 (of_z w128 c.sum_of_dual.result))
     (λ j l. c.loop-k.invariant j (omega (arith, c.edge_count-k-end.ensures.value, c.loop-k-test.false, l)))
-    (plain c.sum_of_dual.result c.sum_of_dual.type_inv ∙ c.sum_of_dual.ensures)
+    (omega (arith, ints, c.sum_of_dual.type_inv, c.sum_of_dual.ensures))

@@ -1,6 +1,6 @@
-use Rattle.std.proofs.Common.{rules, ◌*◌, ◌^◌, ◌≤◌, unsigned_abs, ◌∙◌, arith}
-use Rattle.{std.proofs.lemmas.Int.ints, def_matching.specs.Dual.dual}
-use Rattle.qm_dual.proofs.Gathered.{named_small, apart_sums, plain_difference}
+use Rattle.std.proofs.Common.{rules, ◌*◌, ◌^◌, ◌≤◌, unsigned_abs, arith}
+use Rattle.{std.proofs.lemmas.Int.ints}
+use Rattle.qm_dual.proofs.Gathered.{named_small, apart_sums}
 use Rattle.qm_dual.proofs.loads.crossing_sum.Goals as goal
 
 -- The sums of both entries and of the set around both are small.
@@ -18,17 +18,10 @@ pub overflow_sub-result : goal.overflow_sub-result
 overflow_sub-result c = omega (arith, ints, sums c)
 
 pub returns-clause-value : goal.returns-clause-value
-returns-clause-value c = (plain_difference c.sum_at.result c.sum_at-2.result c.sum_at-both.result (sums c)).0 ∙ omega (
-  arith,
-  ints,
-  c.sum_at.ensures,
-  c.sum_at-2.ensures,
-  c.sum_at-both.ensures,
-  apart_sums c.args.d.now.n (dual c.args.d.now.whole.now) c.args.tables.now.sums.items c.requires.tables.summed
-      c.args.a c.args.b c.meeting.result c.requires.entries.0 c.requires.entries.1 c.meeting.ensures.low
-      c.meeting.ensures.least,
-)
+returns-clause-value c =
+    let apart = apart_sums c.requires.tables.summed c.requires.entries.0 c.requires.entries.1 c.meeting.ensures.low
+    c.meeting.ensures.least in
+    omega (arith, ints, sums c)
 
 pub returns-clause-small : goal.returns-clause-small
-returns-clause-small c =
-    let plain = plain_difference c.sum_at.result c.sum_at-2.result c.sum_at-both.result (sums c) in rw plain.0 plain.1
+returns-clause-small c = omega (arith, ints, sums c)

@@ -8,11 +8,7 @@ pub returns-else-second-eq0-clause-least : goal.returns-else-second-eq0-clause-l
 returns-else-second-eq0-clause-least c =
     let some = c.if-second-eq0.false in
     let heads : slice_index c.args.heads.now (c.loop-first.first - 1)
-    ≡ slice_index c.args.heads.now (c.loop-first.second - 1) = elim c.loop-first-test.branch [
-      | then-loop-first-test+then-second-ne0+else-heads-first w ↦ omega arith
-      | then-loop-first-test+else-second-ne0 w ↦ absurd (omega arith)
-      | else-loop-first-test w ↦ absurd (omega arith)
-    ] in
+    ≡ slice_index c.args.heads.now (c.loop-first.second - 1) = grind (arith, c.loop-first-test.branch, some) in
     λ k. meeting_found c.args.d.now.nest.nested c.requires.headed c.loop-first.first c.loop-first.second
     (c.loop-first.first - 1) (c.loop-first.second - 1) c.max.result c.max.ensures (omega arith) (omega arith)
     (omega arith) (omega arith) heads k ∙ sym (c.loop-first.invariant.same k)

@@ -2,12 +2,5 @@ use Rattle.std.proofs.{Common.length, Common.Ok, Common.ap, Common.arith, lemmas
 use Rattle.qm_sing.proofs.Floods.{used_is}
 
 pub returns : Rattle.qm_sing.proofs.classes.euler.Goals.returns
-returns c = ap Ok (omega (
-  arith,
-  ints,
-  c.vertices.ensures.value,
-  c.edge_count.ensures,
-  ap length c.faces.ensures.value,
-  used_is c.args.mesh.now c.faces.ensures.mesh,
-  c.faces.ensures.mesh.few,
-))
+returns c = let used = used_is c.args.mesh.now c.faces.ensures.mesh in
+    ap Ok (omega (arith, ints, c.edge_count.ensures, ap length c.faces.ensures.value, c.faces.ensures.mesh.few))

@@ -1,11 +1,5 @@
-use Rattle.qm_sing.specs.Walks.{Goes, StaysAway, leader, walked}
-use Rattle.{std.proofs.Common.◌≡◌, std.proofs.Common.◌<◌, def_mesh.specs.Darts.darts}
+use Rattle.{def_mesh.specs.Darts.darts, qm_sing.specs.Walks.leader, qm_sing.proofs.Walking.IsWalk}
 
 -- The walk stands as many steps back, and has not met d again.
 abbrev pub invariant-back : Rattle.qm_sing.proofs.lines.first_of.Given.invariant-back
-invariant-back l = record {
-  at : l.first ≡ walked (leader l.mesh) l.d l.counter;
-  low : l.first < darts l.mesh;
-  goes : Goes (leader l.mesh) l.d l.counter;
-  away : StaysAway (leader l.mesh) l.d l.counter;
-}
+invariant-back l = IsWalk (leader l.mesh) (darts l.mesh) l.d l.counter l.first

@@ -1,7 +1,7 @@
-use Rattle.std.proofs.Common.{rules, ◌≡◌, ◌<◌, length, ap, arith}
+use Rattle.std.proofs.Common.{rules, ◌≡◌, ◌<◌, length, ap, refl, arith}
 use Rattle.def_mesh.specs.{Darts.darts, declared.Kind.TheVariants.Regular}
-use Rattle.qm_sing.proofs.{Numberings.kind_read, Seeds.gathered, Seeds.number_read, Longest.kinds_long}
-use Rattle.qm_sing.proofs.{Longest.number_there, Longest.numbers_long}
+use Rattle.qm_sing.proofs.{Numberings.kind_read, Numberings.regular_is, Numberings.number_read, Longest.kinds_long}
+use Rattle.qm_sing.proofs.{Longest.number_there, Longest.numbers_long, Numberings.rings_more}
 use Rattle.qm_sing.proofs.rings.gather.Goals as goal
 
 pub bounds-classed-d : goal.bounds-classed-d
@@ -19,9 +19,11 @@ take_corner-requires-clause-least c = search (rules, number_there)
 pub loop-d-preserved : goal.loop-d-preserved
 loop-d-preserved c = let s = c.args.classed.now in
     let ld : c.loop-d.d < darts s.mesh.now = omega (arith, c.loop-d-test.true, ap length c.faces.ensures.value) in
-    gathered c.faces.ensures.mesh.manifold ld (number_read _ _ c.loop-d.d s.numbers)
-    c.from-v.ensures.value (kind_read _ _ c.from-v.result Regular c.from-v.ensures.vertex s.classes)
-    c.take_corner.ensures.regular c.take_corner.ensures.least c.loop-d.invariant
+    let kind = kind_read _ _ c.from-v.result Regular c.from-v.ensures.vertex s.classes in
+    let number = number_read _ _ c.loop-d.d s.numbers in
+    let more = rings_more c.faces.ensures.mesh.manifold ld c.loop-d.invariant _ _ refl refl in
+    rw (c.take_corner.ensures.regular, c.take_corner.ensures.least) (rw (kind, regular_is s.mesh.now c.from-v.result)
+    (rw (number, c.from-v.ensures.value) more))
 
 pub returns : goal.returns
 returns c =

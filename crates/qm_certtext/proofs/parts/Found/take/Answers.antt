@@ -1,5 +1,5 @@
 use Rattle.std.proofs.{Common.Some, Common.refl, Common.sym, Common.ap, lemmas.Bool.false≢true}
-use Rattle.qm_certtext.proofs.Chosen.{added_ok, holds_none, starts, starts_not, takes_both, takes_other, takes_third}
+use Rattle.qm_certtext.proofs.Chosen.{added_ok, holds_none, takes_both, takes_other, takes_third}
 use Rattle.qm_certtext.specs.{declared.parts.Found.Found, declared.parts.Parts.Parts}
 use Rattle.qm_certtext.proofs.parts.Found.take.Goals as goal
 
@@ -7,10 +7,10 @@ pub returns-then-starts_third : goal.returns-then-starts_third
 returns-then-starts_third c =
     let old = c.args.self.now in
     let new : Found = record old { first = Some c.replace.result; last = c.replace.new.dest } in
-    let both = starts old.first c.args.line (sym c.if-starts_third.ensures) in
     let e = c.new.ensures in
+    let first = ap (λ (p : Parts). Some p) c.replace.ensures.value in
     takes_both c.args.rising old new c.args.line (λ is. false≢true (rw is at c.if-eq.ensures))
-    (takes_third old new c.args.line both.0 both.1 (ap (λ (p : Parts). Some p) c.replace.ensures.value)
+    (takes_third old new c.args.line (sym c.if-starts_third.ensures) first
     (rw c.replace.ensures.after (holds_none e.lengths e.vertices e.sets)))
 
 pub returns : goal.returns
@@ -20,4 +20,4 @@ returns c =
     let e = c.take.ensures in
     added_ok c.take.result old.last c.take.new.self c.args.line e.lengths e.vertices e.vertex_ups e.sets e.set_ups
     (λ adds. takes_both c.args.rising old new c.args.line (λ is. false≢true (rw is at c.if-eq.ensures))
-    (takes_other old new c.args.line (starts_not old.first c.args.line (sym c.if-starts_third.ensures)) refl adds))
+    (takes_other old new c.args.line (sym c.if-starts_third.ensures) refl adds))
