@@ -1,21 +1,21 @@
 -- What is read of the arcs in a slice.
-use Rattle.std.proofs.Common.{rules, ◌≡◌, ℕ, ◌<◌, Bool, List, [], map, length, get_or, sym, ◌∙◌, ap, arith, ◌⊎◌, suc}
-use Rattle.std.proofs.Common.{◌+◌, true, ◌∷◌, ◌++◌, inl, inr, length-append}
-use Rattle.std.proofs.lemmas.List.{get_or-map, length-map, get_or_append_left}
-use Rattle.std.proofs.{lemmas.Grind.get_or_default_zero, lemmas.Bool.cases_eq}
+use Rattle.std.proofs.Common.{rules, ◌≡◌, ℕ, ◌<◌, Bool, List, [], map, length, get_or, sym, ◌∙◌, ap, arith, suc, ◌+◌}
+use Rattle.std.proofs.lemmas.List.{get_or-map, get_or_append_left, get_or_push, length-map}
 use Rattle.def_mesh.specs.{Faces.Faces, Darts.darts, HalfEdges.half_edges, HalfEdges.HalfEdges, Vertices.vertex_count}
-use Rattle.def_cut.specs.{FullCut.is_on, Grids.rectangle, Grids.patch_at, Grids.least_of, declared.patch.Patch.Patch}
-use Rattle.def_layout.specs.{Arcs.Path, Arcs.path, Arcs.path_at, Arcs.long_at, Nodes.is_node, declared.tmesh.TArc.TArc}
-use Rattle.layout_laws.proofs.{Runs.run_low, Runs.same_length, Uses.run_entry, Uses.same_named}
+use Rattle.def_layout.specs.{Arcs.Path, Arcs.path, Arcs.path_at, Arcs.long_at, Nodes.is_node}
 use Rattle.qm_tmesh.specs.{Tables.IsMarked, Tables.IsNamedRun, Tables.AreStarts, Tables.ArePlaces, Uses.AreNamed}
-use Rattle.qm_tmesh.specs.{Arcs.IsArcFrom, Arcs.AreArcsBelow}
-use Rattle.layout_laws.specs.Named.{run_list, run_name}
-use Rattle.qm_tmesh.proofs.Walks.{push_each, push_last}
+use Rattle.std.proofs.Common.{true, ◌∷◌, ◌++◌, refl, inl}
+use Rattle.std.proofs.{Common.inr, lemmas.List.length_push, lemmas.Grind.get_or_default_zero}
+use Rattle.def_cut.specs.{Grids.rectangle, Grids.patch_at, Grids.least_of, declared.patch.Patch.Patch}
+use Rattle.layout_laws.proofs.{Runs.run_low, Runs.same_length, Uses.run_entry, Uses.same_named}
+use Rattle.{std.proofs.lemmas.Bool.cases_eq, def_layout.specs.declared.tmesh.TArc.TArc}
+use Rattle.{layout_laws.specs.Named.run_list, layout_laws.specs.Named.run_name, qm_tmesh.specs.Arcs.IsArcFrom}
+use Rattle.{qm_tmesh.specs.Arcs.AreArcsBelow, qm_tmesh.proofs.Walks.push_each, list_laws.proofs.Filters.last_or}
 
 -- The arc that was read.
 pub read_arc : (arcs : List TArc) (a : ℕ) (x : TArc) → a < length arcs → x ≡ get_or arcs a x → path_at (map path arcs) a
     ≡ path x
-read_arc arcs a x l is = get_or-map path arcs a x (record { first = 0; last = 0; darts = [] }) l ∙ ap path (sym is)
+read_arc arcs a x l is = search (rules, get_or-map)
 
 module _ {faces : Faces} {cut marks : List Bool} (marked : IsMarked faces cut marks) {arcs : List Path}
     (named : AreNamed faces cut arcs) where
@@ -23,11 +23,13 @@ module _ {faces : Faces} {cut marks : List Bool} (marked : IsMarked faces cut ma
   named_some a l = (named.each a l).1.run.some
 
   pub named_low : (a k : ℕ) → a < length arcs → k < long_at arcs a → get_or (path_at arcs a).darts k 0 < darts faces
-  named_low a k l lk =
-      let (s, run, is) = named.each a l in
-      rw (ap (λ (xs : List ℕ). get_or xs k 0) is ∙ run_entry (half_edges faces) s (long_at arcs a) k lk)
-      (run_low (half_edges faces) marked.laws (is_on cut) marked.full (is_node faces cut) marked.stand s
-      (long_at arcs a) run.run k lk)
+  named_low a k l lk = let (s, run, is) = named.each a l in
+      omega (
+        arith,
+        ap (λ (xs : List ℕ). get_or xs k 0) is,
+        run_entry (half_edges faces) s (long_at arcs a) k lk,
+        run_low _ marked.laws _ marked.full _ marked.stand s _ run.run k lk,
+      )
 
 -- A named arc that was read has darts, which are darts of the mesh.
 pub record IsArcRead (faces : Faces) (arcs : List TArc) (a : ℕ) (arc : TArc) : Type 0 where
@@ -39,7 +41,7 @@ pub record IsArcRead (faces : Faces) (arcs : List TArc) (a : ℕ) (arc : TArc) :
 pub arc_read : {faces : Faces} {cut marks : List Bool} → IsMarked faces cut marks → (arcs : List TArc)
     → AreNamed faces cut (map path arcs) → {a : ℕ} {arc : TArc} → a < length arcs → arc ≡ get_or arcs a arc
     → IsArcRead faces arcs a arc
-arc_read {faces} {cut} marked arcs named {a} {arc} l is =
+arc_read marked arcs named {a} {arc} l is =
     let same = read_arc arcs a arc l is in
     let low : a < length (map path arcs) = omega (arith, length-map arcs path) in
     record {
@@ -61,19 +63,6 @@ read_patch patches p x l is = search (rules, get_or-map)
 
 -- The list of arcs, arc by arc.
 
-arc_end : (arcs : List Path) (p : Path) → path_at (arcs ++ p ∷ []) (length arcs) ≡ p
-arc_end arcs p = push_last arcs p (record { first = 0; last = 0; darts = [] })
-
-arc_front : (arcs : List Path) (p : Path) (a : ℕ) → a < length arcs → path_at (arcs ++ p ∷ []) a ≡ path_at arcs a
-arc_front arcs p a l = get_or_append_left arcs (p ∷ []) (record { first = 0; last = 0; darts = [] }) a l
-
-one_more : (arcs : List Path) (p : Path) → length (arcs ++ p ∷ []) ≡ length arcs + 1
-one_more arcs p = length-append arcs (p ∷ [])
-
-front_or_end : (arcs : List Path) (p : Path) (a : ℕ) → a < length (arcs ++ p ∷ []) → (a < length arcs)
-    ⊎ (a ≡ length arcs)
-front_or_end arcs p a l = search (rules, one_more)
-
 each_more : (P : Path → Type 0) (arcs : List Path) (p : Path) → ((a : ℕ) → a < length arcs → P (path_at arcs a)) → P p
     → (a : ℕ) → a < length (arcs ++ p ∷ []) → P (path_at (arcs ++ p ∷ []) a)
 each_more P arcs p each here = push_each (λ k. P) arcs p (record { first = 0; last = 0; darts = [] }) each here
@@ -85,10 +74,12 @@ module _ {faces : Faces} {cut marks : List Bool} (marked : IsMarked faces cut ma
   pub arcs_none : (nodes : List ℕ) → AreArcsBelow faces cut nodes 0 []
   arcs_none nodes = search rules
 
-  -- The ends of a run are nodes, and have their places.
-  pub node_place : (list places : List ℕ) → ArePlaces marks list places → {v : ℕ} → v < vertex_count faces
-      → is_node faces cut v ≡ true → (get_or places v 0 < length list) × (get_or list (get_or places v 0) 0 ≡ v)
-  node_place list places p {v} l on = p.1 v (omega (arith, marked.many)) (marked.told v l ∙ on)
+  -- The place of a node, as it was read.
+  pub node_place : (list places : List ℕ) {v u d : ℕ} → ArePlaces marks list places → v < vertex_count faces → v ≡ u
+      → is_node faces cut u ≡ true → d ≡ get_or places v d → (d < length list) × (get_or list d 0 ≡ u)
+  node_place list places {v} p l is on read =
+      let at = read_at places v read refl (omega (arith, p.0, marked.many)) in
+      rw (← is, at) (p.1 v (omega (arith, marked.many)) (cc (marked.told v l)))
 
   module _ {nodes : List ℕ} {m : ℕ} {arcs : List Path} (so : AreArcsBelow faces cut nodes m arcs) where
     -- No run has the name m.
@@ -106,10 +97,13 @@ module _ {faces : Faces} {cut marks : List Bool} (marked : IsMarked faces cut ma
 
     pub table_skip : {starts : List ℕ} → AreStarts faces cut (darts faces) starts → get_or starts m 0 ≡ length cut
         → AreArcsBelow faces cut nodes (m + 1) arcs
-    table_skip {starts} table none = arcs_skip (λ s n named e.
-        let here : s ≡ length cut =
-        sym (table.first s n named.run.low named) ∙ (ap (λ x. get_or starts x 0) e ∙ none) in
-        absurd (omega (arith, here, named.run.low, marked.long)))
+    table_skip {starts} table none = arcs_skip (λ s n named e. absurd (omega (
+      arith,
+      table.first s n named.run.low named,
+      ap (λ x. get_or starts x 0) e,
+      named.run.low,
+      marked.long,
+    )))
 
     -- The run from s has the name m.
     pub arcs_more : {s n : ℕ} {p : Path} → IsNamedRun faces cut s n → run_name (half_edges faces) s n ≡ m
@@ -118,36 +112,23 @@ module _ {faces : Faces} {cut marks : List Bool} (marked : IsMarked faces cut ma
       each = each_more (λ (q : Path). (r : ℕ) × IsNamedRun faces cut r (length q.darts) × IsArcFrom faces cut nodes r q)
           arcs p so.each (s, rw same at named, from);
       ordered = λ a l.
-          let front : a < length arcs = omega (arith, one_more arcs p) in
-          let here = ap (λ (q : Path). least_of q.darts) (arc_front arcs p a front) in
-          elim (front_or_end arcs p (suc a) l) [
-            | inl b ↦ omega (
-              arith,
-              here,
-              so.ordered a b,
-              ap (λ (q : Path). least_of q.darts) (arc_front arcs p (suc a) b),
-            )
-            | inr e ↦ omega (
-              arith,
-              here,
-              so.below a front,
-              name,
-              ap (λ (q : Path). least_of q.darts) (ap (path_at (arcs ++ p ∷ [])) e ∙ arc_end arcs p),
-            )
+          let front : path_at (arcs ++ p ∷ []) a ≡ path_at arcs a =
+          get_or_append_left arcs (p ∷ []) _ a (omega (arith, length_push arcs p)) in
+          elim (last_or (length arcs) (suc a) (omega (arith, length_push arcs p))) [
+            | inl b ↦ rw (front, get_or_append_left arcs (p ∷ []) _ (suc a) b) (so.ordered a b)
+            | inr e ↦ rw (front, e, get_or_push arcs p _ _ refl) (omega (arith, so.below a (omega arith), name))
           ];
       below = each_more (λ (q : Path). least_of q.darts < m + 1) arcs p (λ a l. omega (arith, so.below a l))
           (omega (arith, name));
       all = λ r k other l. elim (cases_eq (run_name mesh r k) m) [
         | inl e ↦
-            let one = same_named mesh marked.laws (is_on cut) marked.full (is_node faces cut) marked.stand s n r k named
-            other (is ∙ sym e) in (
-              length arcs,
-              omega (arith, one_more arcs p),
-              ap (λ (q : Path). q.darts) (arc_end arcs p) ∙ (list ∙ (ap (λ x. run_list mesh x n) one.0
-                  ∙ ap (run_list mesh r) one.1)),
-            )
-        | inr ne ↦ let (a, la, darts) = so.all r k other (omega arith) in
-            (a, omega (arith, la, one_more arcs p), ap (λ (q : Path). q.darts) (arc_front arcs p a la) ∙ darts)
+            let one = same_named _ marked.laws _ marked.full _ marked.stand s n r k named other (is ∙ sym e) in
+            let there : path_at (arcs ++ p ∷ []) (length arcs) ≡ p = get_or_push arcs p _ _ refl in
+            (length arcs, omega (arith, length_push arcs p), cc list)
+        | inr ne ↦
+            let (a, la, darts) = so.all r k other (omega arith) in
+            let there : path_at (arcs ++ p ∷ []) a ≡ path_at arcs a = get_or_append_left arcs (p ∷ []) _ a la in
+            (a, omega (arith, la, length_push arcs p), cc)
       ];
     }
       where

@@ -1,47 +1,41 @@
-use Rattle.std.proofs.Common.{◌≡◌, ℕ, ◌-◌, true, List, length, get_or, ap, ◌∙◌, arith}
-use Rattle.std.proofs.lemmas.Grind.{get_or_default_zero}
-use Rattle.def_mesh.specs.{Darts.to_of, HalfEdges.half_edges}
-use Rattle.qm_tmesh.proofs.{Walks.run_darts, ArcTables.node_place, ArcTables.read_at}
-use Rattle.{def_cut.specs.Steps.easts, def_layout.specs.Nodes.is_node, layout_laws.proofs.Uses.run_entry}
+use Rattle.std.proofs.Common.{◌≡◌, ◌<◌, ◌-◌, length, ap, ◌∙◌, arith}
+use Rattle.{def_cut.specs.Steps.easts, def_mesh.specs.Darts.to_of, def_mesh.specs.HalfEdges.half_edges}
+use Rattle.qm_tmesh.proofs.{Walks.dart_is, ArcTables.node_place, ArcTables.read_at}
+use Rattle.{layout_laws.proofs.Runs.run_low, qm_tmesh.proofs.arcs.arc_from.Goals.After-row_known-2-1}
 use Rattle.qm_tmesh.proofs.arcs.arc_from.Goals as goal
+
+-- The last dart of the run, as it was read.
+end : (c : After-row_known-2-1) → c.index-end.result.now ≡ easts (half_edges c.args.start.now.mesh.now)
+    c.args.start.now.dart (length c.in_ok-darts.darts.items - 1)
+end c =
+    let made = c.in_ok-darts.ensures in
+    let back = length c.in_ok-darts.darts.items - 1 in
+    let low : back < length c.in_ok-darts.darts.items = omega (arith, made.run.some) in
+    read_at c.in_ok-darts.darts.items back c.index-end.ensures (omega (arith, c.len.ensures, c.in_ok-darts.darts.ok.0))
+    low ∙ dart_is c.requires.marked made.run made.darts back low
 
 pub to-requires : goal.to-requires
 to-requires c =
-    let made = c.in_ok-darts.ensures in
-    let list = c.in_ok-darts.darts.items in
-    let e = read_at c.in_ok-darts.darts.items (length c.in_ok-darts.darts.items - 1) c.index-end.ensures
-    (omega (arith, c.len.ensures, c.in_ok-darts.darts.ok.0)) (omega (arith, made.run.some)) in
-    rw e (run_darts c.requires.marked made.run made.darts (length list - 1) (omega (arith, made.run.some)))
+    let m = c.requires.marked in
+    rw (end (goal.at.to-requires c).After-row_known-2-1) (run_low _ m.laws _ m.full _ m.stand _ _
+    c.in_ok-darts.ensures.run _ (omega (arith, c.in_ok-darts.ensures.run.some)))
 
 pub returns : goal.returns
 returns c =
     let s = c.args.start.now in
-    let nodes = c.args.nodes.now in
+    let placed = c.args.nodes.now.placed in
     let made = c.in_ok-darts.ensures in
     let back = length c.in_ok-darts.darts.items - 1 in
-    let e = read_at c.in_ok-darts.darts.items (length c.in_ok-darts.darts.items - 1) c.index-end.ensures
-    (omega (arith, c.len.ensures, c.in_ok-darts.darts.ok.0)) (omega (arith, made.run.some)) in
-    let end = e ∙ (ap (λ (xs : List ℕ). get_or xs back 0) made.darts ∙ run_entry (half_edges s.mesh.now) s.dart
-    (length c.in_ok-darts.darts.items) back (omega (arith, made.run.some))) in
-    let from_node : is_node s.mesh.now s.cut.now c.from.result ≡ true =
-    ap (is_node s.mesh.now s.cut.now) c.from.ensures.value ∙ s.begins in
-    let to_node : is_node s.mesh.now s.cut.now c.to.result ≡ true = ap (is_node s.mesh.now s.cut.now)
-    (c.to.ensures.value ∙ ap (to_of s.mesh.now) end) ∙ made.run.ends back (omega (arith, made.run.some)) in
-    let one = node_place c.requires.marked _ _ nodes.placed c.from.ensures.vertex from_node in
-    let two = node_place c.requires.marked _ _ nodes.placed c.to.ensures.vertex to_node in
-    let first : c.index-first.result.now ≡ get_or nodes.listed.places.items c.from.result 0 =
-    c.index-first.ensures ∙ get_or_default_zero nodes.listed.places.items _ _
-    (omega (arith, nodes.placed.0, c.requires.marked.many, c.from.ensures.vertex)) in
-    let last : c.index-last.result.now ≡ get_or nodes.listed.places.items c.to.result 0 =
-    c.index-last.ensures ∙ get_or_default_zero nodes.listed.places.items _ _
-    (omega (arith, nodes.placed.0, c.requires.marked.many, c.to.ensures.vertex)) in
+    let at = c.to.ensures.value ∙ ap (to_of s.mesh.now) (end (goal.at.returns c).After-row_known-2-1) in
+    let first = node_place c.requires.marked _ _ placed c.from.ensures.vertex c.from.ensures.value s.begins
+    c.index-first.ensures in
+    let last = node_place c.requires.marked _ _ placed c.to.ensures.vertex at
+    (made.run.ends back (omega (arith, made.run.some))) c.index-last.ensures in
     record {
       run = made.run;
       darts = made.darts;
-      first_low = omega (arith, first, one.0);
-      last_low = omega (arith, last, two.0);
-      first_at = ap (λ x. get_or nodes.listed.list.items x 0) first ∙ (one.1 ∙ c.from.ensures.value);
-      last_at = λ k z. let same : back ≡ k = omega arith in
-          ap (λ x. get_or nodes.listed.list.items x 0) last ∙ (two.1 ∙ (c.to.ensures.value
-          ∙ (ap (to_of s.mesh.now) end ∙ ap (λ x. to_of s.mesh.now (easts (half_edges s.mesh.now) s.dart x)) same)));
+      first_low = first.0;
+      last_low = last.0;
+      first_at = first.1;
+      last_at = λ k z. let same : k ≡ back = omega arith in rw same last.1;
     }

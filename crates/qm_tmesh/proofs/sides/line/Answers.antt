@@ -1,33 +1,27 @@
-use Rattle.std.proofs.Common.{◌≡◌, ◌+◌, ◌-◌, Some, is_some, [], ◌∷◌, ◌++◌, ap, sym, ◌∙◌, arith}
-use Rattle.std.proofs.{lemmas.Option.same_Some, lemmas.List.FromFn.map-range_with_len_more}
-use Rattle.def_mesh.specs.{Darts.straight_of, HalfEdges.half_edges}
-use Rattle.{def_cut.specs.Steps.easts, layout_laws.specs.Named.run_list}
+use Rattle.std.proofs.Common.{◌≡◌, ◌+◌, ◌-◌, Some, is_some, ap, ◌∙◌, sym, arith}
+use Rattle.{std.proofs.lemmas.Option.same_Some, def_mesh.specs.Darts.straight_of, def_mesh.specs.HalfEdges.half_edges}
+use Rattle.{def_cut.specs.Steps.easts, qm_tmesh.proofs.Walks.listed_more}
+use Rattle.qm_tmesh.proofs.sides.line.Goals.{After-straight}
 use Rattle.qm_tmesh.proofs.sides.line.Goals as goal
 
-pub unwrap-d-requires : goal.unwrap-d-requires
-unwrap-d-requires c =
+-- The dart straight on is the next one of the line.
+straight : (c : After-straight) → c.straight.result
+    ≡ Some (easts (half_edges c.args.mesh.now) c.args.first c.steps.counter)
+straight c =
     let place : c.steps.counter - 1 + 1 ≡ c.steps.counter = omega (arith, c.steps.auto.counter) in
-    let is : c.straight.result ≡ Some (easts (half_edges c.args.mesh.now) c.args.first (c.steps.counter - 1 + 1)) =
     c.straight.ensures.value ∙ (ap (straight_of c.args.mesh.now) (c.steps.invariant.at (c.steps.counter - 1) place)
-    ∙ c.requires.straight (c.steps.counter - 1) (omega (arith, c.steps.auto.counter, c.steps-test.true))) in
-    ap is_some is
+    ∙ rw place at (c.requires.straight (c.steps.counter - 1)
+    (omega (arith, c.steps.auto.counter, c.steps-test.true))))
+
+pub unwrap-d-requires : goal.unwrap-d-requires
+unwrap-d-requires c = ap is_some (straight (goal.at.unwrap-d-requires c).After-straight)
 
 pub steps-preserved : goal.steps-preserved
 steps-preserved c =
-    let place : c.steps.counter - 1 + 1 ≡ c.steps.counter = omega (arith, c.steps.auto.counter) in
-    let straight : straight_of c.args.mesh.now c.steps.d ≡ Some (easts (half_edges c.args.mesh.now) c.args.first
-    (c.steps.counter - 1 + 1)) = ap (straight_of c.args.mesh.now) (c.steps.invariant.at (c.steps.counter - 1) place)
-    ∙ c.requires.straight (c.steps.counter - 1) (omega (arith, c.steps.auto.counter, c.steps-test.true)) in
-    let is : c.unwrap-d.result ≡ easts (half_edges c.args.mesh.now) c.args.first c.steps.counter =
-    same_Some c.unwrap-d.result (easts (half_edges c.args.mesh.now) c.args.first (c.steps.counter - 1 + 1))
-    (sym c.unwrap-d.ensures ∙ (c.straight.ensures.value ∙ straight))
-    ∙ ap (easts (half_edges c.args.mesh.now) c.args.first) place in
+    let is = same_Some _ _ (sym c.unwrap-d.ensures ∙ straight (goal.at.steps-preserved c).After-straight) in
     record {
-      at = λ k e. let same : c.steps.counter ≡ k = omega arith in
-          is ∙ ap (easts (half_edges c.args.mesh.now) c.args.first) same;
+      at = λ k e. let same : k ≡ c.steps.counter = omega arith in rw same is;
       low = rw c.unwrap-d.ensures at c.straight.ensures.dart;
-      listed = c.in_ok-push-2.ensures.items ∙ (ap (λ xs. xs ++ c.unwrap-d.result ∷ []) c.steps.invariant.listed
-          ∙ (ap (λ x. run_list (half_edges c.args.mesh.now) c.args.first c.steps.counter ++ x ∷ []) is
-          ∙ sym (map-range_with_len_more (easts (half_edges c.args.mesh.now) c.args.first) 0 c.steps.counter
-          c.steps.counter (omega arith))));
+      listed = (listed_more (half_edges c.args.mesh.now) c.args.first c.steps.counter is c.steps.invariant.listed
+          c.in_ok-push-2.ensures.items).0;
     }

@@ -1,56 +1,67 @@
-use Rattle.std.proofs.Common.{◌≡◌, ◌-◌, ◌<◌, true, false, map, length, get_or, set, ap, sym, ◌∙◌, refl, arith}
-use Rattle.def_layout.specs.Arcs.{path, path_at, long_at}
-use Rattle.qm_tmesh.proofs.{ArcTables.arc_read, ArcTables.read_at, UseTables.uses_more, uses.uses.Goals.in-Some}
-use Rattle.{std.proofs.lemmas.Option.none-some, std.proofs.lemmas.Option.same_Some, def_mesh.specs.Darts.darts}
-use Rattle.{def_mesh.specs.Darts.twin_of, qm_tmesh.proofs.uses.uses.Goals.in_default}
+use Rattle.std.proofs.Common.{◌≡◌, ◌-◌, ◌<◌, true, map, length, get_or, set, ap, ◌∙◌, refl, arith}
+use Rattle.def_layout.specs.Arcs.{path, dart_at, long_at}
+use Rattle.qm_tmesh.proofs.{ArcTables.IsArcRead, ArcTables.arc_read, ArcTables.read_at, UseTables.uses_more}
+use Rattle.qm_tmesh.proofs.uses.uses.Goals.{in-Some, in_default, After-index-arcs-a, After-uses-in-loop-a-1}
+use Rattle.def_mesh.specs.Darts.{darts, twin_of}
 use Rattle.qm_tmesh.proofs.uses.uses.Goals as goal
+
+-- The arc that was read.
+arc : (c : After-index-arcs-a) → IsArcRead c.args.mesh.now c.args.arcs.now c.loop-a.a c.index-arcs-a.result
+arc c = arc_read c.requires.marked c.args.arcs.now c.requires.arcs c.loop-a-test.true c.index-arcs-a.is
+
+first : (c : After-uses-in-loop-a-1) → 0 < length c.index-arcs-a.result.darts.items
+    → c.index-first.result.now ≡ get_or c.index-arcs-a.result.darts.items 0 0
+first c some = read_at _ 0 c.index-first.ensures (omega arith) some
+
+last : (c : After-uses-in-loop-a-1) → 0 < length c.index-arcs-a.result.darts.items → c.index-last.result.now
+    ≡ get_or c.index-arcs-a.result.darts.items (length c.index-arcs-a.result.darts.items - 1) 0
+last c some = read_at c.index-arcs-a.result.darts.items (length c.index-arcs-a.result.darts.items - 1)
+    c.index-last.ensures (omega (arith, c.len.ensures, c.index-arcs-a.result.darts.ok.0)) (omega arith)
 
 pub index-first-requires : goal.index-first-requires
 index-first-requires c =
-    let arc = arc_read c.requires.marked c.args.arcs.now c.requires.arcs c.loop-a-test.true c.index-arcs-a.is in
-    omega (arith, arc.some, c.index-arcs-a.result.darts.ok.0)
+    let read = arc (goal.at.index-first-requires c).After-index-arcs-a in
+    omega (arith, read.some, c.index-arcs-a.result.darts.ok.0)
 
 pub overflow_sub-len : goal.overflow_sub-len
 overflow_sub-len c =
-    let arc = arc_read c.requires.marked c.args.arcs.now c.requires.arcs c.loop-a-test.true c.index-arcs-a.is in
-    omega (arith, arc.some, c.index-arcs-a.result.darts.ok.0, c.len.ensures)
+    let read = arc (goal.at.overflow_sub-len c).After-index-arcs-a in
+    omega (arith, read.some, c.index-arcs-a.result.darts.ok.0, c.len.ensures)
 
 pub index-last-requires : goal.index-last-requires
 index-last-requires c =
-    let arc = arc_read c.requires.marked c.args.arcs.now c.requires.arcs c.loop-a-test.true c.index-arcs-a.is in
-    omega (arith, arc.some, c.index-arcs-a.result.darts.ok.0, c.len.ensures)
+    let read = arc (goal.at.index-last-requires c).After-index-arcs-a in
+    omega (arith, read.some, c.index-arcs-a.result.darts.ok.0, c.len.ensures)
 
 pub index_mut-requires : goal.index_mut-requires
 index_mut-requires c =
-    let arc = arc_read c.requires.marked c.args.arcs.now c.requires.arcs c.loop-a-test.true c.index-arcs-a.is in
-    let first = read_at c.index-arcs-a.result.darts.items 0 c.index-first.ensures (omega arith) arc.some in
-    omega (arith, first, arc.below 0 arc.some, c.loop-a.invariant.long, c.loop-a.uses.ok.0)
+    let at = goal.at.index_mut-requires c in
+    let read = arc at.After-index-arcs-a in
+    let is = first at.After-uses-in-loop-a-1 read.some in
+    omega (arith, is, read.below 0 read.some, c.loop-a.invariant.long, c.loop-a.uses.ok.0)
 
 pub twin-requires : goal.twin-requires
 twin-requires c =
-    let arc = arc_read c.requires.marked c.args.arcs.now c.requires.arcs c.loop-a-test.true c.index-arcs-a.is in
-    let last = read_at c.index-arcs-a.result.darts.items (length c.index-arcs-a.result.darts.items - 1)
-    c.index-last.ensures (omega (arith, c.len.ensures, c.index-arcs-a.result.darts.ok.0)) (omega (arith, arc.some)) in
-    omega (arith, last, arc.below (length c.index-arcs-a.result.darts.items - 1) (omega (arith, arc.some)))
+    let at = goal.at.twin-requires c in
+    let read = arc at.After-index-arcs-a in
+    let low = read.below (length c.index-arcs-a.result.darts.items - 1) (omega (arith, read.some)) in
+    omega (arith, last at.After-uses-in-loop-a-1 read.some, low)
 
 pub loop-a-preserved : goal.loop-a-preserved
 loop-a-preserved c =
-    let arc = arc_read c.requires.marked c.args.arcs.now c.requires.arcs c.loop-a-test.true c.index-arcs-a.is in
-    let first = read_at c.index-arcs-a.result.darts.items 0 c.index-first.ensures (omega arith) arc.some in
-    let last = read_at c.index-arcs-a.result.darts.items (length c.index-arcs-a.result.darts.items - 1)
-    c.index-last.ensures (omega (arith, c.len.ensures, c.index-arcs-a.result.darts.ok.0)) (omega (arith, arc.some)) in
+    let at = goal.at.loop-a-preserved c in
+    let read = arc at.After-index-arcs-a in
+    let is = first at.After-uses-in-loop-a-1 read.some in
+    let end = last at.After-uses-in-loop-a-1 read.some in
     let one = set c.loop-a.uses.items c.index-first.result.now (record { arc = c.loop-a.a; forward = true }) in
-    let twin = c.twin.ensures.value ∙ ap (twin_of c.args.mesh.now) last in
-    let low : c.index-first.result.now < darts c.args.mesh.now = omega (arith, first, arc.below 0 arc.some) in
-    let begins : c.index-first.result.now ≡ get_or (path_at (map path c.args.arcs.now) c.loop-a.a).darts 0 0 =
-    rw arc.same first in
-    let ends : c.twin.result ≡ twin_of c.args.mesh.now (get_or (path_at (map path c.args.arcs.now) c.loop-a.a).darts
-    (long_at (map path c.args.arcs.now) c.loop-a.a - 1) 0) = rw arc.same twin in
+    let low : c.index-first.result.now < darts c.args.mesh.now = omega (arith, is, read.below 0 read.some) in
+    let begins : c.index-first.result.now ≡ dart_at (map path c.args.arcs.now) c.loop-a.a 0 = rw read.same is in
+    let ends : c.twin.result ≡ twin_of c.args.mesh.now (dart_at (map path c.args.arcs.now) c.loop-a.a
+    (long_at (map path c.args.arcs.now) c.loop-a.a - 1)) =
+    rw read.same (c.twin.ensures.value ∙ ap (twin_of c.args.mesh.now) end) in
     elim c.match-twin.branch [
-      | in-Some w ↦ rw w.uses-is (uses_more c.requires.marked c.requires.arcs {one = one} arc.low c.loop-a.invariant
-          begins ends refl low (λ t q. ap (λ x. set one x (record { arc = c.loop-a.a; forward = false }))
-          (same_Some w.in-Some.t t (sym w.in-Some.is ∙ q)))
-          (λ q. absurd (none-some w.in-Some.t (sym q ∙ w.in-Some.is))))
-      | in_default w ↦ rw w.uses-is (uses_more c.requires.marked c.requires.arcs {one = one} arc.low c.loop-a.invariant
-          begins ends refl low (λ t q. absurd (none-some t (sym w.in_default.is ∙ q))) (λ q. refl))
+      | in-Some w ↦ rw w.uses-is (uses_more c.requires.marked c.requires.arcs {one = one} read.low c.loop-a.invariant
+          begins ends refl low (λ t q. cc) (λ q. absurd cc))
+      | in_default w ↦ rw w.uses-is (uses_more c.requires.marked c.requires.arcs {one = one} read.low c.loop-a.invariant
+          begins ends refl low (λ t q. absurd cc) (λ q. refl))
     ]
