@@ -1,18 +1,18 @@
 -- Wishes line by line: what is known after some lines of a text.
-use Rattle.std.proofs.Common.{rules, List, arith, codes, cond, drop, false, get_or, length, length-take, map, refl}
-use Rattle.std.proofs.Common.{take, true, Ok, [], ap, sym, ℕ, ◌++◌, ◌+◌, ◌-◌, ◌<◌, ◌∙◌, ◌∷◌, ◌≡◌, ◌≤◌, Bool, ltb, not}
-use Rattle.std.proofs.Common.{◌||◌}
-use Rattle.std.proofs.lemmas.List.{get_or_default, at_drop_more, drop_all, get_or-take, length-map, same_lists}
-use Rattle.std.proofs.{lemmas.Bool.not-false, lemmas.Bool.or_parts, lemmas.List.FromFn.get_or-map-range_with_len}
-use Rattle.std.proofs.{lemmas.List.FromFn.length-range_with_len, lemmas.Slice.Eq.bytes_eq-Decides, lemmas.Simd.map-map}
-use Rattle.std.specs.{List.All, List.range_with_len, List.list_all, List.list_any, Str.bytes_eq}
-use Rattle.def_fit.specs.WishLines.{all_wish_fails, edge_wishes, is_wish_line, vertex_line_count, wish_or, wishes_said}
-use Rattle.def_fit.specs.WishLines.{Wished, all_wished, wish_fails, wish_words, wished_by, wishes_of}
-use Rattle.{def_fit.specs.declared.fit.TheConstants.MAX_WISH, def_marks.specs.Chains.runs_between}
+use Rattle.std.proofs.lemmas.List.{get_or_default, at_drop_more, drop_all, length-map}
+use Rattle.std.proofs.Common.{rules, List, arith, codes, cond, drop, false, get_or, length, map, refl}
+use Rattle.std.proofs.Common.{take, true, Ok, [], ap, sym, ℕ, ◌++◌, ◌+◌, ◌<◌, ◌∙◌, ◌∷◌, ◌≡◌, ◌≤◌, Bool}
+use Rattle.def_fit.specs.WishLines.{all_wish_fails, is_wish_line, vertex_line_count, wish_or, wishes_said}
 use Rattle.def_marks.specs.Lines.{corner_index, is_line_corner, is_malformed, named_chain, named_vertex, is_nothing}
-use Rattle.def_text.specs.{FaceSet.FaceSet, Types.Words, declared.index.Index.Index}
-use Rattle.{qm_marks.specs.Wishing.TakesWish, qm_marks.specs.Wishing.pieces_of, def_io.specs.Lines.lines_of}
-use Rattle.{def_io.specs.Bytes.Bytes, def_io.specs.Bytes.Lines, def_mesh.specs.Darts.darts, def_mesh.specs.Faces.Faces}
+use Rattle.std.proofs.lemmas.{Bool.not-false, Bool.or_parts, Simd.map-map, Slice.Eq.bytes_eq-Decides}
+use Rattle.def_fit.specs.WishLines.{Wished, all_wished, wish_fails, wish_words}
+use Rattle.std.{proofs.Common.ltb, proofs.Common.not, proofs.Common.◌||◌, specs.List.All}
+use Rattle.def_fit.specs.{WishLines.wished_by, WishLines.wishes_of, declared.fit.TheConstants.MAX_WISH}
+use Rattle.std.specs.{List.list_all, List.list_any, Str.bytes_eq}
+use Rattle.qm_marks.{proofs.EdgeMarks.is_map, specs.Wishing.TakesWish, specs.Wishing.pieces_of}
+use Rattle.{def_marks.specs.Chains.runs_between, def_text.specs.FaceSet.FaceSet, def_text.specs.Types.Words}
+use Rattle.{def_text.specs.declared.index.Index.Index, def_io.specs.Bytes.Bytes}
+use Rattle.{def_io.specs.Bytes.Lines, def_mesh.specs.Darts.darts, def_mesh.specs.Faces.Faces}
 
 -- Wishes one after another.
 wish_or_more : (faces : Faces) (d before : ℕ) (one more : List Wished) → wish_or faces d before (one ++ more)
@@ -76,47 +76,26 @@ module _ {soup : FaceSet} {lines : Lines} {all i : ℕ} {wishes : List ℕ} (kno
     each d l = rw none_left at (known.wishes d l)
 
     pub at_last : all ≡ vertex_line_count lines → wishes_of soup lines ≡ Ok wishes
-    at_last count = rw (← count, ← known.fails, none_left, listed) refl
-      where
-        listed : edge_wishes soup.faces (all_wished soup.names lines) ≡ wishes
-        listed =
-            let f : ℕ → ℕ = λ d. wish_or soup.faces d 1000 (all_wished soup.names lines) in
-            let long : length (map f (range_with_len 0 (darts soup.faces))) ≡ darts soup.faces =
-            length-map (range_with_len 0 (darts soup.faces)) f ∙ length-range_with_len 0 (darts soup.faces) in
-            same_lists (map f (range_with_len 0 (darts soup.faces))) wishes (long ∙ sym known.long) (λ k d l.
-            let low : k < darts soup.faces = omega arith in
-            get_or-map-range_with_len f 0 (darts soup.faces) k k d low (omega arith)
-            ∙ sym (get_or_default wishes k d 0 (omega arith) ∙ each k low))
+    at_last count =
+        let listed = is_map (λ d. wish_or soup.faces d 1000 (all_wished soup.names lines)) (darts soup.faces) 0 wishes
+        known.long each in
+        rw (← count, ← known.fails, none_left, ← listed) refl
 
     pub at_small : All (λ wish. wish ≤ MAX_WISH) wishes
     at_small k d l = rw (← get_or_default wishes k 0 d l) (known.small k (omega arith))
-
--- A line before that one.
-pub low_in : (text : Bytes) (after i : ℕ) → after ≤ length (lines_of text) → i < after
-    → i < length (take after (lines_of text))
-low_in text after i within low = omega (arith, length-take after (lines_of text))
-
-pub line_in : (text : Bytes) (after i : ℕ) (line : Bytes) → after ≤ length (lines_of text) → i < after → line
-    ≡ get_or (lines_of text) i [] → line ≡ get_or (take after (lines_of text)) i []
-line_in text after i line within low is = is ∙ sym (get_or-take after (lines_of text) i [] low)
 
 -- Why the corners of a line are refused, by what is read of them.
 
 module _ (all before : ℕ) (corners : Words) (right : Bool) (indices : List Index) (is : right
     ≡ list_all is_line_corner corners) (are : right ≡ true → indices ≡ map (corner_index all before) corners) where
-  -- Whether corners are missing.
-  pub malformed_is : (ltb (length indices) 2 || not right) ≡ is_malformed corners
-  malformed_is = by_right right refl
-    where
-      by_right : (b : Bool) → right ≡ b → (ltb (length indices) 2 || not b)
-          ≡ (ltb (length corners) 2 || not (list_all is_line_corner corners))
-      by_right true on = ap (λ n. ltb n 2 || false) (ap length (are on) ∙ length-map corners (corner_index all before))
-          ∙ ap (λ b. ltb (length corners) 2 || not b) (sym on ∙ is)
-      by_right false off = search rules
-
   -- Where none is missing the indices are theirs.
-  pub indices_are : (ltb (length indices) 2 || not right) ≡ false → indices ≡ map (corner_index all before) corners
-  indices_are off = are (not-false _ (or_parts _ _ off).1)
+  pub well_formed : (ltb (length indices) 2 || not right) ≡ false
+      → (is_malformed corners ≡ false) × (indices ≡ map (corner_index all before) corners)
+  well_formed off =
+      let (many, proper) = or_parts _ _ off in
+      let on = not-false _ proper in
+      let same : length indices ≡ length corners = ap length (are on) ∙ length-map corners (corner_index all before) in
+      (cc, are on)
 
 any_map : {X Y : Type 0} (p : Y → Bool) (f : X → Y) (xs : List X) → list_any p (map f xs) ≡ list_any (λ x. p (f x)) xs
 any_map p f [] = refl

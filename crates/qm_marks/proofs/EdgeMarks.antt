@@ -1,25 +1,35 @@
 -- The marks along chains of edges are those of inner edges, equal at twins.
-use Rattle.std.proofs.Common.{rules, Bool, List, Option, Some, arith, eqb, false, is_some, sym, ◌&&◌, ◌+◌, ◌<◌, ◌||◌}
+use Rattle.std.proofs.Common.{Decides, rules, Bool, List, Some, arith, eqb, false, is_some, sym, ◌&&◌, ◌+◌, ◌<◌, ◌||◌}
 use Rattle.std.proofs.Common.{◌∙◌, ◌≡◌, ap, ℕ, None, [], get_or, length, refl, true, inl, inr, set, ◌∷◌, ◌≢◌, ◌⊎◌, map}
-use Rattle.std.proofs.Common.{◌%◌, ◌*◌, ◌++◌, ◌-◌, ◌/◌, ◌^◌, ◌≤◌, cond}
+use Rattle.std.proofs.Common.{◌%◌, ◌*◌, ◌++◌, ◌/◌, ◌^◌, ◌≤◌, cond}
 use Rattle.std.proofs.{lemmas.Bool.or_right, lemmas.Bool.cases_Bool, lemmas.Option.none-some, lemmas.Option.same_Some}
-use Rattle.std.proofs.{lemmas.List.Elements.Contains-get_or, lemmas.List.Elements.at_from_Contains}
-use Rattle.std.proofs.{lemmas.List.Sorted.Contains-permutation, lemmas.List.Sorted.IsPermutation-sym}
+use Rattle.std.proofs.lemmas.List.Elements.{All-filter, All-map, Contains-get_or, at_from_Contains}
+use Rattle.std.proofs.lemmas.Bool.Decides.{Decides-and, Decides-eqb, Decides-or}
+use Rattle.std.proofs.lemmas.List.Sorted.{All-permutation, Contains-permutation}
 use Rattle.std.proofs.lemmas.List.FromFn.{get_or-map-range_with_len, length-range_with_len, get_or-range_with_len}
-use Rattle.std.proofs.lemmas.List.{length-map, get_or-set_other, get_or-set_same, length-set, get_or-map, map-append}
-use Rattle.std.proofs.lemmas.Bool.{and_from, and_parts, cases_eq, eqb-true, false≢true, or_cases, eq-eqb, or_left}
+use Rattle.std.proofs.lemmas.List.{get_or_default, same_lists, length-map, get_or-set_other, get_or-set_same}
+use Rattle.std.proofs.lemmas.List.{FromFn.length-map-range_with_len, length-set, get_or-map, map-append}
+use Rattle.std.proofs.lemmas.Bool.{and_from, cases_eq, false≢true}
 use Rattle.std.proofs.lemmas.List.Folds.{list_all-append, list_all_at, list_any-append}
 use Rattle.std.proofs.Math.Bool.{and-true, or-false, or_comm}
-use Rattle.std.specs.List.{list_any, list_all, range_with_len, Contains}
+use Rattle.std.specs.List.{All, list_any, list_all, range_with_len, Contains}
 use Rattle.std.specs.{List.Sorted.IsNonDecreasing, List.Sorted.IsPermutation, Prelude.filter}
 use Rattle.def_marks.specs.Chains.{is_along_chains, link_at, marks_along, runs_along, runs_between, step_places}
 use Rattle.def_mesh.specs.Darts.{IsTwin, all_darts, from_of, twin_of, darts, to_of, next_of}
 use Rattle.def_mesh.specs.{Manifold.IsManifold, Faces.Faces, Vertices.vertex_count}
 use Rattle.mesh_laws.proofs.Chains.{twin_found, twin_is, next_of_low}
-use Rattle.list_laws.proofs.Filters.{range_any, range_more, filter_range_more, kept_at, place_of}
+use Rattle.list_laws.proofs.Filters.{range_any, range_more, filter_range_more, place_of}
 use Rattle.qm_marks.specs.Keys.{IsNoneBetween, AreEnds, IsBetween, IsLeastPlace, dart_key, is_busy, key_of}
 use Rattle.{std.proofs.lemmas.Nat.div-mul-add, std.proofs.lemmas.Nat.mod-mul-add, def_marks.specs.Chains.is_edge}
 use Rattle.{mesh_laws.proofs.Flood.all_below, def_feature.specs.Marks.AreMarks, def_cut.specs.FullCut.is_on}
+
+-- A list of the values of all numbers below n.
+pub is_map : {X : Type 0} (f : ℕ → X) (n : ℕ) (d : X) (xs : List X) → length xs ≡ n
+    → ((k : ℕ) → k < n → get_or xs k d ≡ f k) → xs ≡ map f (range_with_len 0 n)
+is_map f n d xs long each =
+    let same = length-map-range_with_len f 0 n in
+    same_lists xs (map f (range_with_len 0 n)) (long ∙ sym same) (λ k e l. let low : k < n = omega arith in
+    get_or_default xs k e d l ∙ (each k low ∙ sym (get_or-map-range_with_len f 0 n k k e low (omega arith))))
 
 -- The mark of a dart.
 pub mark_along : (faces : Faces) (chains : List (List ℕ)) (d : ℕ) → d < darts faces → is_on (marks_along faces chains) d
@@ -29,34 +39,36 @@ mark_along faces chains d l = search (rules, get_or-map-range_with_len)
 turned : (a b c e : Bool) → ((e && c) || (b && a)) ≡ ((a && b) || (c && e))
 turned a b c e = grind (arith)
 
+-- Whether two numbers are two others, in either order.
+ends_decide : (a b u v : ℕ) → Decides ((eqb a u && eqb b v) || (eqb a v && eqb b u))
+    (((a ≡ u) × (b ≡ v)) ⊎ ((a ≡ v) × (b ≡ u)))
+ends_decide a b u v = Decides-or (eqb a u && eqb b v) (eqb a v && eqb b u)
+    (Decides-and (eqb a u) (eqb b v) (Decides-eqb a u) (Decides-eqb b v))
+    (Decides-and (eqb a v) (eqb b u) (Decides-eqb a v) (Decides-eqb b u))
+
 module _ (faces : Faces) (d e : ℕ) (twin : twin_of faces d ≡ Some e) where
   is : IsTwin faces d e
   is = twin_is faces d e twin
 
   -- Twins run between the same vertices, and along the same chains.
   between_twins : (u v : ℕ) → runs_between faces u v e ≡ runs_between faces u v d
-  between_twins u v = ap (λ x. (eqb x u && eqb (to_of faces e) v) || (eqb x v && eqb (to_of faces e) u)) is.1
-      ∙ (ap (λ y. (eqb (to_of faces d) u && eqb y v) || (eqb (to_of faces d) v && eqb y u)) is.2
-      ∙ turned (eqb (from_of faces d) u) (eqb (to_of faces d) v) (eqb (from_of faces d) v) (eqb (to_of faces d) u))
+  between_twins u v = rw (is.1, is.2)
+      (turned (eqb (from_of faces d) u) (eqb (to_of faces d) v) (eqb (from_of faces d) v) (eqb (to_of faces d) u))
 
   along_twins : (chain : List ℕ) → runs_along faces chain e ≡ runs_along faces chain d
   along_twins chain = λ i. list_any (λ k. between_twins (link_at chain k) (link_at chain (k + 1)) i) (step_places chain)
 
-  marked_twins : (chains : List (List ℕ)) → IsManifold faces → d < darts faces → is_along_chains faces chains e
-      ≡ is_along_chains faces chains d
-  marked_twins chains m l =
-      let back = twin_found faces m.edges_once e d (l, sym is.2, sym is.1) in
-      ap (λ (o : Option ℕ). is_some o && list_any (λ chain. runs_along faces chain e) chains) back
-      ∙ ((λ i. list_any (λ chain. along_twins chain i) chains)
-      ∙ sym (ap (λ (o : Option ℕ). is_some o && list_any (λ chain. runs_along faces chain d) chains) twin))
+  marked_twins : (chains : List (List ℕ)) → IsManifold faces → d < darts faces
+      → is_along_chains faces chains e ≡ is_along_chains faces chains d
+  marked_twins chains m l = rw (twin_found faces m.edges_once e d (l, sym is.2, sym is.1), twin)
+      (λ i. list_any (λ chain. along_twins chain i) chains)
 
 pub marks_are : (faces : Faces) (chains : List (List ℕ)) → IsManifold faces → AreMarks faces (marks_along faces chains)
 marks_are faces chains m = record {
   long = length-map (all_darts faces) (is_along_chains faces chains) ∙ length-range_with_len 0 (darts faces);
   alike = λ d e l t. mark_along faces chains e (twin_is faces d e t).0
       ∙ (marked_twins faces d e t chains m l ∙ sym (mark_along faces chains d l));
-  inner = λ d l t. mark_along faces chains d l
-      ∙ ap (λ (o : Option ℕ). is_some o && list_any (λ chain. runs_along faces chain d) chains) t;
+  inner = λ d l t. rw (mark_along faces chains d l, t) refl;
 }
 
 -- What is not along a chain keeps its mark.
@@ -71,27 +83,19 @@ module _ (faces : Faces) (m : IsManifold faces) where
       → ((runs_between faces (from_of faces d) (to_of faces d) x ≡ true) × ((x ≡ d) ⊎ (twin_of faces d ≡ Some x)))
       ⊎ ((runs_between faces (from_of faces d) (to_of faces d) x ≡ false) × (x ≢ d) × (twin_of faces d ≢ Some x))
   edge_cases d x ld lx =
-      let Runs = runs_between faces (from_of faces d) (to_of faces d) x ≡ true in
+      let decide = ends_decide (from_of faces x) (to_of faces x) (from_of faces d) (to_of faces d) in
       elim (cases_Bool (runs_between faces (from_of faces d) (to_of faces d) x)) [
         | inl on ↦ inl (
           on,
-          elim (or_cases _ _ on) [
-            | inl a ↦ let p = and_parts (eqb (from_of faces x) (from_of faces d)) _ a in
-                inl (m.edges_once x d lx ld (eqb-true _ _ p.0, eqb-true _ _ p.1))
-            | inr b ↦ let p = and_parts (eqb (from_of faces x) (to_of faces d)) _ b in
-                inr (twin_found faces m.edges_once d x (lx, eqb-true _ _ p.0, eqb-true _ _ p.1))
+          elim (decide.0 on) [
+            | inl same ↦ inl (m.edges_once x d lx ld same)
+            | inr back ↦ inr (twin_found faces m.edges_once d x (lx, back.0, back.1))
           ],
         )
         | inr off ↦ inr (
           off,
-          λ e.
-              let on : Runs = or_left _ _ (and_from _ _ (eq-eqb _ _ (ap (from_of faces) e))
-              (eq-eqb _ _ (ap (to_of faces) e))) in
-              false≢true (sym off ∙ on),
-          λ t.
-              let is = twin_is faces d x t in
-              let on : Runs = or_right _ _ (and_from _ _ (eq-eqb _ _ is.1) (eq-eqb _ _ is.2)) in
-              false≢true (sym off ∙ on),
+          λ e. false≢true (sym off ∙ decide.1 (inl (ap (from_of faces) e, ap (to_of faces) e))),
+          λ t. let is = twin_is faces d x t in false≢true (sym off ∙ decide.1 (inr (is.1, is.2))),
         )
       ]
 
@@ -154,11 +158,9 @@ module _ (faces : Faces) (m : IsManifold faces) where
 -- A dart between u and v has the darts of its edge between its own ends.
 pub same_edge : (faces : Faces) (u v d x : ℕ) → runs_between faces u v d ≡ true
     → runs_between faces (from_of faces d) (to_of faces d) x ≡ runs_between faces u v x
-same_edge faces u v d x on = elim (or_cases _ _ on) [
-  | inl a ↦ let p : (eqb (from_of faces d) u ≡ true) × (eqb (to_of faces d) v ≡ true) = and_parts _ _ a in
-      rw (eqb-true _ _ p.0, eqb-true _ _ p.1) refl
-  | inr b ↦ let p = and_parts (eqb (from_of faces d) v) _ b in
-      rw (eqb-true _ _ p.0, eqb-true _ _ p.1)
+same_edge faces u v d x on = elim ((ends_decide (from_of faces d) (to_of faces d) u v).0 on) [
+  | inl same ↦ rw (same.0, same.1) refl
+  | inr back ↦ rw (back.0, back.1)
       (or_comm (eqb (from_of faces x) v && eqb (to_of faces x) u) (eqb (from_of faces x) u && eqb (to_of faces x) v))
 ]
 
@@ -206,6 +208,10 @@ all_not p n k low off =
 
 -- Darts in a table of keys by their ends.
 
+-- The key of some dart.
+abbrev IsKey : (faces : Faces) (key : ℕ) → Type 0
+IsKey faces key = (d : ℕ) × (d < darts faces) × (key ≡ dart_key faces d)
+
 -- The keys of the busy darts, in any order that rises, are a table of ends.
 pub sorted_are : (faces : Faces) (few : ℕ) (old keys : List ℕ)
     → old ≡ map (dart_key faces) (filter (is_busy faces few) (all_darts faces))
@@ -215,16 +221,19 @@ sorted_are faces few old keys are moved rising = record { rising = rising; each 
     busy : List ℕ
     busy = filter (is_busy faces few) (all_darts faces)
 
-    each : (k : ℕ) → k < length keys → (d : ℕ) × (d < darts faces) × (get_or keys k 0 ≡ dart_key faces d)
+    each : (k : ℕ) → k < length keys → IsKey faces (get_or keys k 0)
     each k l =
-        let c = Contains-permutation keys old (get_or keys k 0) (IsPermutation-sym old keys moved)
-        (Contains-get_or keys k 0 l) in
-        let at = at_from_Contains (map (dart_key faces) busy) (get_or keys k 0) (rw are at c) in
-        let m : at.0 < length busy = omega (arith, length-map busy (dart_key faces)) in (
-          get_or busy at.0 0,
-          omega (arith, (kept_at (is_busy faces few) 0 (darts faces) at.0 m).high),
-          sym (at.2 0) ∙ get_or-map (dart_key faces) busy at.0 0 0 m,
-        )
+        let all : All (λ d. IsKey faces (dart_key faces d)) (all_darts faces) = λ i e low. (
+          get_or (all_darts faces) i e,
+          omega (
+            arith,
+            get_or-range_with_len 0 (darts faces) i e (omega (arith, length-range_with_len 0 (darts faces))),
+            length-range_with_len 0 (darts faces),
+          ),
+          refl,
+        ) in
+        All-permutation (IsKey faces) old keys moved (rw are (All-map (IsKey faces) (dart_key faces) busy
+        (All-filter (is_busy faces few) (λ d. IsKey faces (dart_key faces d)) (all_darts faces) all))) k 0 l
 
     has : (d : ℕ) → d < darts faces → is_busy faces few d ≡ true → (k : ℕ) × (k < length keys)
         × (get_or keys k 0 ≡ dart_key faces d)
@@ -277,13 +286,8 @@ module _ (faces : Faces) (few : ℕ) (keys : List ℕ) (are : AreEnds faces few 
       (omega arith) ∙ sym (key_ends u v 0 (omega arith)))
 
 -- One dart more is busy, or is not.
-pub keys_on : (faces : Faces) (few d key : ℕ) → is_busy faces few d ≡ true → key ≡ dart_key faces d
-    → map (dart_key faces) (filter (is_busy faces few) (range_with_len 0 (d + 1)))
-    ≡ map (dart_key faces) (filter (is_busy faces few) (range_with_len 0 d)) ++ key ∷ []
-keys_on faces few d key on is = rw (filter_range_more (is_busy faces few) d, on, is)
-    (map-append (dart_key faces) (filter (is_busy faces few) (range_with_len 0 d)) (d ∷ []))
-
-pub keys_off : (faces : Faces) (few d : ℕ) → is_busy faces few d ≡ false
+pub keys_more : (faces : Faces) (few d : ℕ)
     → map (dart_key faces) (filter (is_busy faces few) (range_with_len 0 (d + 1)))
     ≡ map (dart_key faces) (filter (is_busy faces few) (range_with_len 0 d))
-keys_off faces few d off = search (rules, filter_range_more)
+    ++ map (dart_key faces) (cond (is_busy faces few d) (d ∷ []) [])
+keys_more faces few d = rw (filter_range_more (is_busy faces few) d) (map-append (dart_key faces) _ _)

@@ -1,17 +1,16 @@
 -- Marks line by line: what is known after some lines of a text.
 use Rattle.std.proofs.Common.{rules, Bool, Err, List, Ok, arith, cond, false, is_some, length, map, refl, sym, ◌&&◌}
 use Rattle.std.proofs.Common.{◌+◌, ◌||◌, [], ap, ℕ, ◌<◌, ◌∙◌, ◌∷◌, ◌≡◌, ◌≤◌}
-use Rattle.std.proofs.{lemmas.List.FromFn.length-range_with_len, lemmas.List.Sums.sum_by-cons}
-use Rattle.std.proofs.{lemmas.List.get_or_default, lemmas.List.length-map, lemmas.List.same_lists}
+use Rattle.std.proofs.{lemmas.List.Sums.sum_by-cons}
 use Rattle.std.specs.{List.count_by, List.flat_map, List.list_any, Prelude.slice_range}
 use Rattle.def_marks.specs.Lines.{Placed, line_chain, line_fails, marks_of, placed_lines, text_lines, vertex_lines_in}
 use Rattle.def_marks.specs.{Chains.is_along_chains, Chains.marks_along, Chains.runs_along}
 use Rattle.def_marks.specs.{declared.fail.MarkFail.MarkFail}
-use Rattle.def_mesh.specs.{Darts.all_darts, Darts.darts, Darts.twin_of, Faces.Faces, Manifold.IsManifold}
+use Rattle.def_mesh.specs.{Darts.darts, Darts.twin_of, Faces.Faces, Manifold.IsManifold}
 use Rattle.def_text.specs.{Logical.logical_lines, Logical.Logical, Reading.is_vertex_line}
 use Rattle.def_text.specs.FaceSet.{FaceSet}
 use Rattle.qm_marks.specs.{Reading.IsReading, Reading.TookLine, Reading.placed_at, declared.lines.MarkReader.MarkReader}
-use Rattle.qm_marks.proofs.EdgeMarks.{mark_along, merged, marks_are}
+use Rattle.qm_marks.proofs.EdgeMarks.{is_map, merged, marks_are, unmarked}
 use Rattle.qm_obj.{proofs.Groups.next_lines, proofs.Groups.span_within, specs.Ahead.span, specs.Lines.first_logical}
 use Rattle.{def_feature.specs.Marks.AreMarks, def_cut.specs.FullCut.is_on, def_io.specs.Bytes.Lines}
 
@@ -71,19 +70,10 @@ module _ {soup : FaceSet} {mesh : Faces} where
     long : length reader.marks.items ≡ darts soup.faces
     long = known.reads.long ∙ ap darts known.reads.same
 
-    long_all : length (marks_along soup.faces (map (line_chain soup) all)) ≡ darts soup.faces
-    long_all = length-map (all_darts soup.faces) (is_along_chains soup.faces (map (line_chain soup) all))
-        ∙ length-range_with_len 0 (darts soup.faces)
-
-    at : (d : ℕ) → d < darts soup.faces → is_on reader.marks.items d
-        ≡ is_on (marks_along soup.faces (map (line_chain soup) all)) d
-    at d l = search (rules, mark_along)
-
     -- Behind the last line.
     pub left_same : reader.marks.items ≡ marks_along soup.faces (map (line_chain soup) all)
-    left_same = same_lists reader.marks.items (marks_along soup.faces (map (line_chain soup) all)) (long ∙ sym long_all)
-        (λ d x l. get_or_default reader.marks.items d x false l ∙ (at d (omega (arith, l, long)) ∙ get_or_default
-        (marks_along soup.faces (map (line_chain soup) all)) d false x (omega (arith, l, long, long_all))))
+    left_same = is_map (is_along_chains soup.faces (map (line_chain soup) all)) (darts soup.faces) false
+        reader.marks.items long (λ d l. unmarked _ (is_some (twin_of soup.faces d)) ∙ known.marks d l)
 
     pub left_none : marks_of soup all ≡ Ok reader.marks.items
     left_none = rw (← known.fails) (ap Ok (sym left_same))
@@ -101,28 +91,18 @@ module _ {soup : FaceSet} {mesh : Faces} {all : Lines} {first i after : ℕ} {re
     abbrev pub line : Logical
     line = first_logical (i + 1) (slice_range all i after)
 
-    ahead : IsLeft soup mesh (text_lines (logical_lines (first + 1) (slice_range all first after)))
+    pub ahead : IsLeft soup mesh (text_lines (logical_lines (first + 1) (slice_range all first after)))
         (line ∷ logical_lines (i + span (slice_range all i after) + 1)
         (slice_range all (i + span (slice_range all i after)) after)) reader
-    ahead = rw (← next_lines all i after lt within) at.left
-
-    pub at_room : reader.before + vertex_lines_in line ≤ reader.all
-    at_room = room ahead
-
-    pub at_refused : (fail : MarkFail) → line_fails soup (placed_at reader.all reader.before line) ≡ fail ∷ []
-        → marks_of soup (text_lines (logical_lines (first + 1) (slice_range all first after))) ≡ Err fail
-    at_refused fail is = left_refused ahead fail is
+    ahead = rw (← next_lines all i after lt within (i + span (slice_range all i after)) refl) at.left
 
     pub at_next : {next : ℕ} {new : MarkReader} → next ≡ i + span (slice_range all i after)
         → TookLine soup reader new line → IsAtLine soup mesh all first next after new
     at_next is took = rw is (record { within = (span_within all i after lt within).1; left = left_more ahead took })
 
-  ends : after ≤ i → IsLeft soup mesh (text_lines (logical_lines (first + 1) (slice_range all first after))) [] reader
+  pub ends : after ≤ i
+      → IsLeft soup mesh (text_lines (logical_lines (first + 1) (slice_range all first after))) [] reader
   ends past = search rules
-
-  pub at_end : after ≤ i → marks_of soup (text_lines (logical_lines (first + 1) (slice_range all first after)))
-      ≡ Ok reader.marks.items
-  at_end past = left_none (ends past)
 
   pub at_inner : after ≤ i → IsManifold mesh → AreMarks mesh reader.marks.items
   at_inner past m = search (rules, left_same, marks_are)
@@ -139,8 +119,7 @@ pub counted_next : {all : Lines} {first i after count next more : ℕ} → i < a
     ≡ vertex_lines_in (first_logical (i + 1) (slice_range all i after)) → IsCounted all first next after (count + more)
 counted_next {all} {first} {i} {after} {count} {next} {more} lt within at is are =
     let line = first_logical (i + 1) (slice_range all i after) in
-    let rest : logical_lines (i + 1) (slice_range all i after)
-    ≡ line ∷ logical_lines (next + 1) (slice_range all next after) = rw is (next_lines all i after lt within) in
+    let rest = next_lines all i after lt within next is in
     let cut : count_by is_vertex_line (logical_lines (i + 1) (slice_range all i after))
     ≡ vertex_lines_in line + count_by is_vertex_line (logical_lines (next + 1) (slice_range all next after)) =
     ap (count_by is_vertex_line) rest ∙ count_cons line (logical_lines (next + 1) (slice_range all next after)) in

@@ -19,24 +19,17 @@ pub record IsReadTo (all before : ℕ) (text rest : List ℕ) (indices : List In
   pub passed : list_all is_line_corner (words rest) ≡ list_all is_line_corner (words text)
   pub items : indices ++ map (corner_index all before) (words rest) ≡ map (corner_index all before) (words text)
 
--- The next word, where there is one.
-pub next_word : (rest after : List ℕ) (word : Word) → words rest ≡ cond (eqb (length word) 0) [] (word ∷ words after)
-    → eqb (length word) 0 ≡ false → words rest ≡ word ∷ words after
-next_word rest after word first some = first ∙ ap (λ (b : Bool). cond b [] (word ∷ words after)) some
+-- One corner more.
+pub read_more : {all before : ℕ} {text rest after : List ℕ} {word : Word} {indices : List Index} {index : Index}
+    → IsReadTo all before text rest indices → words rest ≡ word ∷ words after
+    → (is_line_corner word ≡ true) × (index ≡ corner_index all before word)
+    → IsReadTo all before text after (indices ++ index ∷ [])
+read_more {all} {before} {text} {rest} {after} {word} {indices} {index} to next is = search (rules, append_assoc)
 
-module _ (all before : ℕ) (text rest after : List ℕ) (word : Word) (indices : List Index)
-    (to : IsReadTo all before text rest indices) where
-  module _ (next : words rest ≡ word ∷ words after) where
-    -- One corner more.
-    pub read_more : (index : Index) → (is_line_corner word ≡ true) × (index ≡ corner_index all before word)
-        → IsReadTo all before text after (indices ++ index ∷ [])
-    read_more index is = search (rules, append_assoc)
-
--- The parts of a word before and behind its first slash.
-pub behind_slash : (p : ℕ → Bool) (word : Word) → drop 1 (drop (position_or_len p word) word) ≡ after_first p word
+-- A word by its parts before and behind its first slash.
+behind_slash : (p : ℕ → Bool) (word : Word) → drop 1 (drop (position_or_len p word) word) ≡ after_first p word
 behind_slash p word = drop-drop 1 (position_or_len p word) word
 
--- A word by these parts.
 pub corner_found : (word first tail : List ℕ) (p : ℕ) → p ≡ position_or_len is_slash word → first ≡ take p word → tail
     ≡ drop p word → (is_line_corner word ≡ (is_signed first && is_optional (drop 1 tail))) × (used_index word ≡ first)
 corner_found word first tail p at front back = search (rules, behind_slash)

@@ -26,9 +26,10 @@ pub record AreMarkedBefore (faces : Faces) (v : ℕ) (fan : List ℕ) (i : ℕ) 
   pub marks : (t : ℕ) → t < i → IsMark faces v by_end (get_or fan t 0)
   pub first : FirstBefore faces v fan i twice
 
+-- One dart more of the fan.
 module _ {faces : Faces} {v : ℕ} {fan : List ℕ} (h : IsFan faces v fan) {i : ℕ} (old new : List ℕ) (l : i < length fan)
     (marks : (t : ℕ) → t < i → IsMark faces v old (get_or fan t 0)) where
-  marks_more : (found : Option Doubled) → MarksOne faces v (get_or fan i 0) old new found
+  pub marks_more : (found : Option Doubled) → MarksOne faces v (get_or fan i 0) old new found
       → to_of faces (get_or fan i 0) < length old → (t : ℕ) → t < i + 1 → IsMark faces v new (get_or fan t 0)
   marks_more None m low t k =
       let d = get_or fan i 0 in
@@ -49,7 +50,7 @@ module _ {faces : Faces} {v : ℕ} {fan : List ℕ} (h : IsFan faces v fan) {i :
     | inr s ↦ rw s (record { runs = rw (← m.1) m.4; least = omega (arith, m.1, m.3) })
   ])
 
-  first_more : (twice found : Option Doubled) → MarksOne faces v (get_or fan i 0) old new found
+  pub first_more : (twice found : Option Doubled) → MarksOne faces v (get_or fan i 0) old new found
       → FirstBefore faces v fan i twice → FirstBefore faces v fan (i + 1) (option_or twice found)
   first_more (Some p) found m is = is
   first_more None None m none = λ j t k. elim (last_or i t k) [
@@ -69,16 +70,6 @@ module _ {faces : Faces} {v : ℕ} {fan : List ℕ} (h : IsFan faces v fan) {i :
         let p = earlier_place faces v fan h i k l (omega (arith, m.2)) (sym same.0 ∙ start) in
         none j p.0 p.1 (omega (arith, p.2)) start (rw p.2 same),
   )
-
--- One dart more of the fan.
-pub mark_more : {faces : Faces} {v i : ℕ} {fan old : List ℕ} {twice : Option Doubled} (new : List ℕ)
-    (found : Option Doubled) → IsFan faces v fan
-    → i < length fan → to_of faces (get_or fan i 0) < length old → AreMarkedBefore faces v fan i old twice
-    → MarksOne faces v (get_or fan i 0) old new found → AreMarkedBefore faces v fan (i + 1) new (option_or twice found)
-mark_more {old = old} {twice = twice} new found h l low b m = record {
-  marks = marks_more h old new l b.marks found m low;
-  first = first_more h old new l b.marks twice found m b.first;
-}
 
 -- The whole fan has been taken.
 pub first_of_all : {faces : Faces} {v i : ℕ} {fan by_end : List ℕ} {twice : Option Doubled} → IsFan faces v fan

@@ -1,15 +1,17 @@
-use Rattle.std.proofs.Common.{rules, ap, arith, drop, length, ◌∙◌, ◌≡◌}
-use Rattle.qm_marks.proofs.AllWishes.{at_last, at_other, at_small, at_wish, line_in, low_in}
+use Rattle.std.proofs.Common.{rules, ap, arith, drop, length, length-take, sym, take, [], ◌<◌, ◌∙◌, ◌≡◌}
+use Rattle.qm_marks.proofs.AllWishes.{at_last, at_other, at_small, at_wish}
 use Rattle.qm_marks.proofs.wishes.{read_wishes.Goals.in-Some+in_ok-take_wish, read_wishes.Goals.in_default}
-use Rattle.{std.proofs.lemmas.List.take_at, def_mesh.specs.Darts.darts}
+use Rattle.std.proofs.lemmas.List.{get_or-take, take_at}
+use Rattle.{def_io.specs.Lines.lines_of, def_mesh.specs.Darts.darts}
 use Rattle.qm_marks.proofs.wishes.read_wishes.Goals as goal
 
 pub loop-i-preserved : goal.loop-i-preserved
 loop-i-preserved c =
     let known = c.loop-i.invariant in
-    let low = low_in c.args.lines.now c.args.after c.loop-i.i c.requires.within c.loop-i-test.true in
-    let line = line_in c.args.lines.now c.args.after c.loop-i.i c.line.result.now c.requires.within c.loop-i-test.true
-    c.line.ensures in
+    let low : c.loop-i.i < length (take c.args.after (lines_of c.args.lines.now)) =
+    omega (arith, c.requires.within, c.loop-i-test.true, length-take c.args.after (lines_of c.args.lines.now)) in
+    let line = c.line.ensures
+    ∙ sym (get_or-take c.args.after (lines_of c.args.lines.now) c.loop-i.i [] c.loop-i-test.true) in
     elim c.match-strip_prefix.branch [
       | in-Some+in_ok-take_wish w ↦
           let new = w.take_wish.new.wishes in

@@ -1,6 +1,6 @@
 use Rattle.qm_marks.proofs.{OneWish.takes_no_edge, OneWish.takes_wish, wishes.take_wish.Goals.After-put_wish}
 use Rattle.std.proofs.{Common.cond, Common.get_or, Common.sym, Common.◌∙◌, Common.◌≡◌}
-use Rattle.{def_fit.specs.WishLines.vertex_named, def_marks.specs.Chains.runs_between, qm_marks.specs.Wishing.pieces_of}
+use Rattle.{def_fit.specs.WishLines.vertex_named, def_marks.specs.Chains.runs_between}
 use Rattle.{def_marks.specs.Chains.is_edge}
 use Rattle.qm_marks.proofs.wishes.take_wish.Goals as goal
 
@@ -21,14 +21,11 @@ pub returns-then-put_wish-clause-took : goal.returns-then-put_wish-clause-took
 returns-then-put_wish-clause-took c =
     let at = (goal.at.returns-then-put_wish-clause-took c).After-put_wish in
     let same = c.requires.keyed.same in
-    takes_wish c.args.places.now.soup.now c.args.places.now.all c.args.number (pieces_of c.args.text.now)
-    c.is_far.ensures.few c.in-Some.said c.in-Some.ensures (sym c.is_far.ensures.far ∙ c.if-is_far.false)
-    c.args.wishes.now c.put_wish.new.wishes (sym (edge_is at) ∙ c.if-put_wish.true) (λ d low. c.put_wish.ensures.wishes
-    c.if-put_wish.true d (rw same low) ∙ (λ i. cond (runs_between (same i) (u_is at i) (v_is at i) d)
-    c.in-Some.said.wish (get_or c.args.wishes.now d 0)))
+    takes_wish _ _ _ _ c.is_far.ensures.few _ c.in-Some.ensures (sym c.is_far.ensures.far ∙ c.if-is_far.false) _ _
+    (sym (edge_is at) ∙ c.if-put_wish.true) (λ d low. c.put_wish.ensures.wishes c.if-put_wish.true d (rw same low)
+    ∙ (λ i. cond (runs_between (same i) (u_is at i) (v_is at i) d) c.in-Some.said.wish (get_or c.args.wishes.now d 0)))
 
 pub returns-else-put_wish-clause-refused : goal.returns-else-put_wish-clause-refused
-returns-else-put_wish-clause-refused c = takes_no_edge c.args.places.now.soup.now c.args.places.now.all c.args.number
-    (pieces_of c.args.text.now) c.is_far.ensures.few c.in-Some.said c.in-Some.ensures
-    (sym c.is_far.ensures.far ∙ c.if-is_far.false)
+returns-else-put_wish-clause-refused c = takes_no_edge c.args.places.now.soup.now _ _ _ c.is_far.ensures.few _
+    c.in-Some.ensures (sym c.is_far.ensures.far ∙ c.if-is_far.false)
     (sym (edge_is (goal.at.returns-else-put_wish-clause-refused c).After-put_wish) ∙ c.if-put_wish.false)

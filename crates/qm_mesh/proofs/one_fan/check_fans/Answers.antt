@@ -1,63 +1,47 @@
 use Rattle.std.proofs.Common.{◌≡◌, length, ◌<◌, ap, ◌∙◌, arith}
-use Rattle.qm_mesh.proofs.OneFan.{IsVisited, not_seen, checked_more, two_fans_first, one_fan_all}
+use Rattle.qm_mesh.proofs.OneFan.{not_seen, checked_more, two_fans_first, one_fan_all}
 use Rattle.qm_mesh.proofs.{Vertices.fan_found, one_fan.check_fans.Goals.After-as_slice}
-use Rattle.qm_mesh.proofs.{one_fan.check_fans.Goals.After-is_one_fan}
 use Rattle.{def_mesh.specs.Vertices.fan_of, mesh_laws.proofs.Chains.IsFan, mesh_laws.proofs.Chains.is_fan}
 use Rattle.qm_mesh.proofs.one_fan.check_fans.Goals as goal
 
 -- The darts are those of the vertex, and there is one.
-are : (c : After-as_slice) → c.as_slice.result.now ≡ fan_of c.args.faces.now c.loop-v.v
-are c = c.as_slice.ensures ∙ fan_found _ _ _ _ _ c.requires.each_fan c.loop-v-test.true c.index-fans-v.is
-
-fan : (c : After-as_slice) → IsFan c.args.faces.now c.loop-v.v c.as_slice.result.now
-fan c = is_fan _ _ _ (are c)
-
-used : (c : After-as_slice) → 0 < length c.as_slice.result.now
-used c = omega (arith, ap length (are c), c.requires.used c.loop-v.v c.loop-v-test.true)
+fan : (c : After-as_slice)
+    → IsFan c.args.faces.now c.loop-v.v c.as_slice.result.now × (0 < length c.as_slice.result.now)
+fan c =
+    let are : c.as_slice.result.now ≡ fan_of c.args.faces.now c.loop-v.v =
+    c.as_slice.ensures ∙ fan_found _ _ _ _ _ c.requires.each_fan c.loop-v-test.true c.index-fans-v.is in
+    (is_fan _ _ _ are, omega (arith, ap length are, c.requires.used c.loop-v.v c.loop-v-test.true))
 
 pub is_one_fan-requires-clause-used : goal.is_one_fan-requires-clause-used
-is_one_fan-requires-clause-used c = used (goal.at.is_one_fan-requires-clause-used c).After-as_slice
+is_one_fan-requires-clause-used c = (fan (goal.at.is_one_fan-requires-clause-used c).After-as_slice).1
 
 pub is_one_fan-requires-clause-darts : goal.is_one_fan-requires-clause-darts
 is_one_fan-requires-clause-darts c t l =
-    let h = fan (goal.at.is_one_fan-requires-clause-darts c).After-as_slice in
+    let h = (fan (goal.at.is_one_fan-requires-clause-darts c).After-as_slice).0 in
     omega (arith, h.dart t l, c.requires.partners.long, ap length c.loop-v.invariant.0)
 
 pub is_one_fan-requires-clause-unseen : goal.is_one_fan-requires-clause-unseen
 is_one_fan-requires-clause-unseen c =
-    let at = (goal.at.is_one_fan-requires-clause-unseen c).After-as_slice in
-    not_seen _ _ _ c.loop-v.invariant.1 _ ((fan at).dart 0 (used at)) ((fan at).leaves 0 (used at))
-
--- What the turn around the vertex saw.
-visit : (c : After-is_one_fan) → IsFan c.args.faces.now c.loop-v.v c.as_slice.result.now
-    → 0 < length c.as_slice.result.now → IsVisited c.args.faces.now c.args.twins.now c.loop-v.v c.as_slice.result.now
-    c.loop-v.corners.seen.items c.is_one_fan.new.self.seen.items
-visit c h some = record {
-  partners = c.requires.partners;
-  free = c.requires.repeat_free;
-  once = c.requires.once;
-  is_fan = h;
-  used = some;
-  before = c.loop-v.invariant.1;
-  long = omega (arith, ap length (c.is_one_fan.ensures.same ∙ c.loop-v.invariant.0));
-  visit = rw c.loop-v.invariant.0 at c.is_one_fan.ensures.visit;
-}
+    let (h, some) = fan (goal.at.is_one_fan-requires-clause-unseen c).After-as_slice in
+    not_seen _ _ _ c.loop-v.invariant.1 _ (h.dart 0 some) (h.leaves 0 some)
 
 pub returns-then-not-is_one_fan-clause-err : goal.returns-then-not-is_one_fan-clause-err
 returns-then-not-is_one_fan-clause-err c =
-    let at = goal.at.returns-then-not-is_one_fan-clause-err c in
-    let h = fan at.After-as_slice in (
+    let (h, some) = fan (goal.at.returns-then-not-is_one_fan-clause-err c).After-as_slice in (
       c.requires.repeat_free,
       c.requires.once,
-      two_fans_first (visit at.After-is_one_fan h (used at.After-as_slice)) c.if-not-is_one_fan.ensures.all,
+      two_fans_first c.requires h some c.loop-v.invariant.1
+          (omega (arith, ap length (c.is_one_fan.ensures.same ∙ c.loop-v.invariant.0))) c.loop-v.invariant.0
+          c.is_one_fan.ensures.visit c.if-not-is_one_fan.ensures.all,
     )
 
 pub loop-v-preserved : goal.loop-v-preserved
 loop-v-preserved c =
-    let at = goal.at.loop-v-preserved c in
-    let h = fan at.After-as_slice in (
+    let (h, some) = fan (goal.at.loop-v-preserved c).After-as_slice in (
       c.is_one_fan.ensures.same ∙ c.loop-v.invariant.0,
-      checked_more (visit at.After-is_one_fan h (used at.After-as_slice)) c.if-not-is_one_fan.ensures.all,
+      checked_more c.requires h some c.loop-v.invariant.1
+          (omega (arith, ap length (c.is_one_fan.ensures.same ∙ c.loop-v.invariant.0))) c.loop-v.invariant.0
+          c.is_one_fan.ensures.visit c.if-not-is_one_fan.ensures.all,
     )
 
 pub returns-clause-ok : goal.returns-clause-ok

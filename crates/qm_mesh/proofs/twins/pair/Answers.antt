@@ -1,11 +1,6 @@
-use Rattle.std.proofs.Common.{ℕ, List, arith, ◌≡◌, ◌++◌, take, drop, length, sym, subst, inl, inr, refl}
-use Rattle.std.proofs.{Math.Seq.take-append_seam, lemmas.Bool.cases_order}
-use Rattle.{qm_mesh.proofs.Vertices.end_low, qm_mesh.specs.Pairs.ArePartners}
+use Rattle.std.proofs.{Common.arith, Common.sym, Common.subst, Common.inl, Common.inr, Common.refl, lemmas.List.take_at}
+use Rattle.{std.proofs.lemmas.Bool.cases_order, qm_mesh.proofs.Vertices.end_low, qm_mesh.specs.Pairs.ArePartners}
 use Rattle.qm_mesh.proofs.twins.pair.Goals as goal
-
--- What was lent whole comes back whole.
-come_back : (n : ℕ) (new old : List ℕ) → length new ≡ n → take n (new ++ drop (length new) old) ≡ new
-come_back n new old e = rw (← e) (take-append_seam new _)
 
 pub edge_twice-requires-clause-first : goal.edge_twice-requires-clause-first
 edge_twice-requires-clause-first c =
@@ -24,7 +19,7 @@ returns-clause-ok c =
     let quads = c.args.quads.now in
     let a = c.pair_all-twice.ensures in
     subst (λ twins. ArePartners quads.faces.now twins)
-    (sym (come_back _ c.pair_all-twice.new.twins _ (omega (arith, a.long))))
+    (sym (take_at c.pair_all-twice.new.twins _ _ (omega (arith, a.long))))
     (record { long = a.long; each = λ e l. a.each e l (end_low quads.faces.now _ _ quads.are.within l) })
 
 pub returns-clause-once : goal.returns-clause-once

@@ -2,7 +2,7 @@ use Rattle.std.proofs.Common.{rules, Bool, List, Ok, arith, false, is_some, leng
 use Rattle.std.proofs.Common.{◌&&◌, ◌||◌, ap, ◌∙◌, ◌≡◌}
 use Rattle.{std.proofs.lemmas.List.with_items_is, def_marks.specs.Chains.is_chain, def_marks.specs.Chains.runs_along}
 use Rattle.def_marks.specs.Lines.{corner_index, is_malformed, is_nothing, named_chain}
-use Rattle.qm_marks.proofs.AllWishes.{chain_is, indices_are, malformed_is, nothing_is}
+use Rattle.qm_marks.proofs.AllWishes.{chain_is, nothing_is, well_formed}
 use Rattle.qm_marks.proofs.lines.MarkReader.take_corners.Goals.{After-mark_chain, After-names_nothing}
 use Rattle.{std.specs.List.list_any, def_cut.specs.FullCut.is_on, def_mesh.specs.Darts.twin_of}
 use Rattle.{def_mesh.specs.Darts.darts, def_text.specs.Words.words}
@@ -25,8 +25,8 @@ known c =
     let many : c.len.result ≡ length indices = c.len.ensures ∙ c.read_corners.new.indices.ok.0 in
     let off : (ltb (length indices) 2 || not right) ≡ false = ap (λ n. ltb n 2 || not right) (sym many)
     ∙ (sym c.lacks_corners.ensures ∙ c.if-lacks_corners.false) in
-    let they = indices_are all before corners right indices c.in_ok-right.ensures.corners are off in (
-      sym (malformed_is all before corners right indices c.in_ok-right.ensures.corners are) ∙ off,
+    let (proper, they) = well_formed all before corners right indices c.in_ok-right.ensures.corners are off in (
+      proper,
       they,
       c.names_nothing.ensures ∙ (ap (list_any is_nothing) c.deref.ensures.value
           ∙ nothing_is all before corners indices they),
@@ -37,13 +37,12 @@ returns-then-names_nothing-clause-refused c other =
     let k = known (goal.at.returns-then-names_nothing-clause-refused c).After-names_nothing in
     rw (k.0, sym k.2 ∙ c.if-names_nothing.true) refl
 
--- The chain whose edges are marked.
+-- The chain whose edges are marked, and whether it is one.
 chain : (c : After-mark_chain) → c.read_corners.new.indices.items
     ≡ map (corner_index c.args.self.now.all c.args.self.now.before) (words c.args.text.now) → c.deref-5.result.now
     ≡ named_chain c.args.soup.now.names c.args.self.now.all c.args.self.now.before (words c.args.text.now)
 chain c they = search (rules, chain_is)
 
--- Whether it is one.
 linked : (c : After-mark_chain) → c.read_corners.new.indices.items
     ≡ map (corner_index c.args.self.now.all c.args.self.now.before) (words c.args.text.now)
     → is_chain c.args.soup.now.faces (named_chain c.args.soup.now.names c.args.self.now.all c.args.self.now.before
