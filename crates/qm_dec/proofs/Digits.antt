@@ -1,4 +1,5 @@
 -- The number that digits write, digit by digit and in parts.
+use Rattle.std.proofs.lemmas.Grind.{common_steps}
 use Rattle.std.proofs.Common.{rules, ◌≡◌, ℕ, ◌+◌, ◌-◌, ◌*◌, ◌^◌, ◌<◌, ◌≤◌, true, List, [], ◌∷◌, ◌++◌, length, take}
 use Rattle.std.proofs.Common.{drop, get_or, sym, ap, ◌∙◌, arith, zero, suc, min, inl, inr, false, ◌&&◌, eqb, refl, ℤ}
 use Rattle.std.proofs.Common.{◌/◌, pos, negsuc, ◌-ℤ◌, ◌+ℤ◌, neg_ℤ, cond, ltb, subst}
@@ -34,9 +35,7 @@ pub both_far : (n i j : ℕ) → 15 ≤ i → 15 ≤ j → clamped (n * 10 ^ i) 
 both_far zero i j a b = ap clamped (omega arith)
 both_far (suc n) i j a b =
     let far = λ (k : ℕ) (l : 15 ≤ k). pow-le-pow_right {n = 10} (omega arith) {i = 15} {j = k} l in
-    let p : 10 ^ 15 ≤ 10 ^ i = far i a in
-    let q : 10 ^ 15 ≤ 10 ^ j = far j b in
-    omega arith
+    search rules
 
 -- digits behind a number shift it and add their own
 pub after_is : (n : ℕ) (vs : List ℕ) → number_from_digits_after 10 n vs ≡ n * 10 ^ length vs + number_from_digits 10 vs
@@ -47,15 +46,12 @@ after_is n (v ∷ vs) = let power = ap (λ x. n * x) (pow-suc 10 (length vs)) in
 -- one digit more of a loop
 pub after_more : (n : ℕ) (ds : List ℕ) (i : ℕ) → i < length ds → number_from_digits_after 10 n
     (values (take (i + 1) ds)) ≡ number_from_digits_after 10 n (values (take i ds)) * 10 + (get_or ds i 0 - 48)
-after_more n ds i l = ap (λ xs. number_from_digits_after 10 n (values xs)) (take_more ds i 0 l) ∙ ap
-    (number_from_digits_after 10 n) (map_push (λ d. d - 48) (take i ds) (get_or ds i 0)) ∙ number_after_append 10 n
-    (values (take i ds)) ((get_or ds i 0 - 48) ∷ [])
+after_more n ds i l = grind (arith, common_steps, values, take_more, map_push, take, number_after_append)
 
 -- digits in two parts
 pub number_append : (xs ys : List ℕ) → number_written (xs ++ ys) ≡ number_from_digits_after 10 (number_written xs)
     (values ys)
-number_append xs ys = ap (number_from_digits 10) (map-append (λ d. d - 48) xs ys)
-    ∙ number_after_append 10 0 (values xs) (values ys)
+number_append xs ys = search (rules, map-append, number_after_append, values)
 
 -- a loop over one run of digits and then another, which may take a clamped number for the number
 pub two_parts : (xs ys : List ℕ) (a b : ℕ) → a ≡ clamped (number_written xs)
@@ -114,22 +110,24 @@ cut_exact ds i k all e =
     let front = take (i + 1) ds in
     let behind = drop (i + 1) ds in
     let long : length behind ≡ k = length-drop (i + 1) ds ∙ omega arith in
-    let small = subst (λ (n : ℕ). number_written behind < 10 ^ n) long
-    (number_small behind (digits_split ds (i + 1) all).1) in
     ap (λ n. (2 * n + 10 ^ suc k) / (2 * 10 ^ suc k)) (ap number_written (sym (take-append-drop (i + 1) ds))
     ∙ number_append front behind ∙ after_is (number_written front) (values behind)
     ∙ ap (λ n. number_written front * 10 ^ n + number_written behind) (length-map behind (λ x. x - 48) ∙ long)
     ∙ ap (λ n. n * 10 ^ k + number_written behind) (after_more 0 ds i (omega arith)))
     ∙ ap (λ p. (2 * ((number_written (take i ds) * 10 + (get_or ds i 0 - 48)) * 10 ^ k + number_written behind) + p) /
     (2 * p)) (pow-succ' 10 k) ∙ rounding (number_written (take i ds)) (get_or ds i 0 - 48) (number_written behind)
-    (10 ^ k) (get_or ds i 0) small (omega (arith, d)) (omega (arith, d))
+    (10 ^ k) (get_or ds i 0) (subst (λ (n : ℕ). number_written behind < 10 ^ n) long
+    (number_small behind (digits_split ds (i + 1) all).1)) (omega (arith, d)) (omega (arith, d))
 
 -- fewer digits than are cut: less than a half
 pub cut_zero : (ds : List ℕ) (k : ℕ) → list_all is_ascii_digit ds ≡ true → length ds ≤ k
     → scaled (number_written ds) (negsuc k) ≡ 0
-cut_zero ds k all l =
-    let p : 10 ^ length ds ≤ 10 ^ k = pow-le-pow_right {n = 10} (omega arith) {i = length ds} {j = k} l in
-    div-eq_of_lt (omega (arith, number_small ds all, pow-suc 10 k))
+cut_zero ds k all l = div-eq_of_lt (omega (
+  arith,
+  pow-le-pow_right {n = 10} (omega arith) {i = length ds} {j = k} l,
+  number_small ds all,
+  pow-suc 10 k,
+))
 
 -- a power of ten below any that matters, and one above
 pub power_down : (ds : List ℕ) (f p : ℕ) → list_all is_ascii_digit ds ≡ true → length ds ≤ 64
@@ -137,11 +135,7 @@ pub power_down : (ds : List ℕ) (f p : ℕ) → list_all is_ascii_digit ds ≡ 
     ≡ clamped (scaled (number_written ds) ((neg_ℤ (pos p) +ℤ pos 6) -ℤ pos f))
 power_down ds f p all short = let at = λ (z : ℤ). clamped (scaled (number_written ds) z) in elim (cases_lt p 1001) [
   | inl l ↦ let e : pos 6 -ℤ pos (f + min p 1000) ≡ (neg_ℤ (pos p) +ℤ pos 6) -ℤ pos f = omega (arith, ints) in ap at e
-  | inr g ↦
-      let a : pos 6 -ℤ pos (f + min p 1000) ≡ negsuc (f + 993) = omega (arith, ints) in
-      let b : (neg_ℤ (pos p) +ℤ pos 6) -ℤ pos f ≡ negsuc (f + p - 7) = omega (arith, ints) in
-      ap at a ∙ ap clamped (cut_zero ds (f + 993) all (omega arith) ∙ sym (cut_zero ds (f + p - 7) all (omega arith)))
-      ∙ sym (ap at b)
+  | inr g ↦ grind (arith, common_steps, pos, min, ints, cut_zero)
 ]
 
 pub power_up : (n f p : ℕ) → f ≤ 64 → clamped (scaled n (pos (6 + min p 1000) -ℤ pos f))

@@ -1,4 +1,5 @@
 -- Decimals of few digits without an exponent.
+use Rattle.std.proofs.lemmas.Grind.{common_steps}
 use Rattle.std.proofs.Common.{rules, ◌≡◌, ℕ, ◌+◌, ◌-◌, ◌*◌, ◌^◌, ◌<◌, ◌≤◌, min, true, List, [], ◌∷◌, ◌++◌, length, take}
 use Rattle.std.proofs.Common.{drop, get_or, sym, ap, ◌∙◌, refl, arith}
 use Rattle.std.proofs.lemmas.List.{append-nil, length-map, length-take, nil_from_length, take-append-drop, take-take}
@@ -18,8 +19,7 @@ after_small : (n : ℕ) (ds : List ℕ) → n < 10 ^ 9 → list_all is_ascii_dig
     → number_from_digits_after 10 n (values ds) < 10 ^ 9 * 10 ^ length ds
 after_small n ds few all =
     let is = after_is n (values ds) ∙ ap (λ k. n * 10 ^ k + number_written ds) (length-map ds (λ d. d - 48)) in
-    let most : (n + 1) * 10 ^ length ds ≤ 10 ^ 9 * 10 ^ length ds = mul-le-mul_right (10 ^ length ds) (omega arith) in
-    omega (arith, number_small ds all)
+    search (rules, mul-le-mul_right, number_small)
 
 pub after_room : (n : ℕ) (ds : List ℕ) (i : ℕ) → n < 10 ^ 9 → list_all is_ascii_digit (take i ds) ≡ true → length ds ≤ 9
     → number_from_digits_after 10 n (values (take i ds)) < 10 ^ 18
@@ -29,10 +29,9 @@ after_room n ds i few all short = search (rules, length-take, after_small)
 pub size_small : (w : ℕ) (ys : List ℕ) → w < 10 ^ 9 → list_all is_ascii_digit ys ≡ true → length ys ≤ 6
     → number_from_digits_after 10 w (values ys) * 10 ^ (6 - length ys) < 10 ^ 15
 size_small w ys few all short =
-    let n = number_from_digits_after 10 w (values ys) in
     let f = length ys in
     let low = after_small w ys few all in
-    let most : (n + 1) * 10 ^ (6 - f) ≤ 10 ^ 9 * 10 ^ f * 10 ^ (6 - f) =
+    let most : ((number_from_digits_after 10 w (values ys)) + 1) * 10 ^ (6 - f) ≤ 10 ^ 9 * 10 ^ f * 10 ^ (6 - f) =
     mul-le-mul_right (10 ^ (6 - f)) (omega arith) in
     let part : f + (6 - f) ≡ 6 = omega arith in
     let six : 10 ^ f * 10 ^ (6 - f) ≡ 10 ^ 6 = sym (pow-add 10 f (6 - f)) ∙ ap (λ k. 10 ^ k) part in
@@ -45,10 +44,14 @@ nine_small ds all nine = omega (arith, number_small ds all, ten_most (length ds)
 parts_are : {word fs : List ℕ} (ds : List ℕ) → HasParts word (ds ++ fs) fs → length word ≤ 64 → 0 < length ds
     → length ds ≤ 9 → list_all is_ascii_digit ds ≡ true → list_all is_ascii_digit fs ≡ true → length fs ≤ 6
     → IsSize word (number_from_digits_after 10 (number_written ds) (values fs) * 10 ^ (6 - length fs))
-parts_are {word} {fs} ds h short some nine all rest six = (
-  parts_form ds h short some all rest,
-  sym (parts_size word (ds ++ fs) fs h six ∙ ap (λ n. n * 10 ^ (6 - length fs)) (number_append ds fs)),
-  size_small (number_written ds) fs (nine_small ds all nine) rest six,
+parts_are {word} {fs} ds h short some nine all rest six = grind (
+  arith,
+  common_steps,
+  parts_form,
+  parts_size,
+  number_append,
+  size_small,
+  nine_small,
 )
 
 -- The digits that a body begins with, at most nine, and their number.
@@ -64,8 +67,7 @@ pub prefix_is : {body : List ℕ} {most count n : ℕ} → most ≡ min (length 
 prefix_is {body} {most} {count} {n} is within all value = search (rules, take-take)
 
 pub prefix_small : {body : List ℕ} {count n : ℕ} → IsPrefix body count n → n < 10 ^ 9
-prefix_small {body} {count} prefix =
-    omega (arith, prefix.is, nine_small (take count body) prefix.all (omega (arith, prefix.long, prefix.nine)))
+prefix_small {body} {count} prefix = search (rules, nine_small, take)
 
 split_prefix : (body rest : List ℕ) (count : ℕ) → rest ≡ drop count body → body ≡ take count body ++ rest
 split_prefix body rest count is = rw (is, take-append-drop count body) refl

@@ -1,4 +1,5 @@
 -- Numbers as they are printed: their digits, their value, their length, and where other bytes stand among them.
+use Rattle.std.proofs.lemmas.Grind.{common_steps}
 use Rattle.std.proofs.Common.{rules, ◌≡◌, ℕ, ◌+◌, ◌%◌, ◌^◌, ◌<◌, Bool, true, false, not, cond, eqb, List, [], ◌∷◌, ◌++◌}
 use Rattle.std.proofs.Common.{length, ap, ◌∙◌, refl, arith, get_or, ◌≤◌, take, drop, sym, ap₂, ◌-◌, ◌/◌, set, zero, suc}
 use Rattle.std.proofs.Common.{◌*◌, pos, negsuc, neg_ℤ, inl, inr, length-append}
@@ -25,8 +26,7 @@ glyph d l = and_from _ _ (le-leb 48 (48 + d) (omega arith)) (le-leb (48 + d) 57 
 -- a printed number has digits alone, and its value
 pub decimal_digits : (n : ℕ) → n < 2 ^ 64 → list_all is_ascii_digit (decimal n) ≡ true
 decimal_digits n l = decimal_by_steps (λ m ds. list_all is_ascii_digit ds ≡ true) (λ m s. and_from _ _ (glyph m s) refl)
-    (λ m ds s all. list_all-append is_ascii_digit ds ((48 + m % 10) ∷ [])
-    ∙ and_from _ _ all (and_from _ _ (glyph (m % 10) (omega arith)) refl)) n l
+    (search (rules, list_all-append, and_from, glyph)) n l
 
 pub decimal_number : (n : ℕ) → n < 2 ^ 64 → number_written (decimal n) ≡ n
 decimal_number n l = decimal_by_steps (λ m ds. number_written ds ≡ m) (λ m s. omega arith)
@@ -74,10 +74,7 @@ below_is word p q r = (sides word p q r).1
 -- what stands at the first byte that passes does pass
 pub first_passes : (b : ℕ → Bool) (xs : List ℕ) → 0 < length (drop (position_or_len b xs) xs)
     → b (get_or (drop (position_or_len b xs) xs) 0 0) ≡ true
-first_passes b xs l =
-    let n = position_or_len b xs in
-    let at : get_or (drop n xs) 0 0 ≡ get_or xs n 0 = get_or-drop n xs 0 0 ∙ ap (λ k. get_or xs k 0) (omega arith) in
-    ap b at ∙ passes_at_first b xs 0 (omega (arith, length-drop n xs))
+first_passes b xs l = grind (arith, common_steps, drop, get_or-drop, passes_at_first, length-drop)
 
 -- two printed numbers with the first slash between them are a ratio's word
 pub joined : (word : List ℕ) (p q : ℕ) → 0 < length (drop (position_or_len is_slash word) word)
@@ -96,18 +93,11 @@ suffix_push xs x = ap (prefix_len (λ d. eqb d 48)) (reverse-append xs (x ∷ []
 
 -- A zero at the end goes.
 pub without_zeros-zero : (xs : List ℕ) → without_zeros (xs ++ 48 ∷ []) ≡ without_zeros xs
-without_zeros-zero xs =
-    let most : suffix_len (λ d. eqb d 48) xs ≤ length xs = suffix_len-le-length (λ d. eqb d 48) xs in
-    let s : suffix_len (λ d. eqb d 48) (xs ++ 48 ∷ []) ≡ 1 + suffix_len (λ d. eqb d 48) xs = suffix_push xs 48 in
-    let n : length (xs ++ 48 ∷ []) - suffix_len (λ d. eqb d 48) (xs ++ 48 ∷ []) ≡ length xs - suffix_len (λ d. eqb d 48)
-    xs = omega (arith, length_push xs 48) in
-    rw n (take-append-le _ xs _ (omega arith))
+without_zeros-zero xs = grind (arith, common_steps, suffix_len-le-length, suffix_push, length_push, take-append-le)
 
 -- Another digit at the end stays.
 pub without_zeros-other : (xs : List ℕ) (x : ℕ) → (x ≡ 48 → ⊥) → without_zeros (xs ++ x ∷ []) ≡ xs ++ x ∷ []
-without_zeros-other xs x ne =
-    let s : suffix_len (λ d. eqb d 48) (xs ++ x ∷ []) ≡ 0 = suffix_push xs x ∙ rw (ne_eqb x 48 ne) refl in
-    take_all _ _ (omega arith)
+without_zeros-other xs x ne = grind (arith, common_steps, suffix_push, ne_eqb, take_all)
 
 pub ruleset trims = (without_zeros-zero, without_zeros-other)
 
@@ -154,31 +144,13 @@ trimmed_number zero [] e = (omega arith, omega arith)
 trimmed_number zero (x ∷ xs) e = absurd (omega arith)
 trimmed_number (suc n) xs e =
     let p = take n xs in
-    let x = get_or xs n 0 in
     let before = trimmed_number n p (length-take n xs ∙ omega arith) in
-    let is : xs ≡ p ++ x ∷ [] = sym (take_all (n + 1) xs (omega arith)) ∙ take_more xs n 0 (omega arith) in
-    elim (cases_eq x 48) [
-      | inl z ↦
-          let w : without_zeros xs ≡ without_zeros p = ap without_zeros is ∙ ap (λ d. without_zeros (p ++ d ∷ [])) z
-          ∙ without_zeros-zero p in (
-            omega (arith, ap length w, before.0),
-            ap (λ (ds : List ℕ). number_written ds * 10 ^ (suc n - length ds)) w
-                ∙ shifted (number_written (without_zeros p)) (length (without_zeros p)) n (number_written p) before.0
-                before.1 ∙ sym (ap number_written is ∙ number_append p (x ∷ []) ∙ omega (arith, z)),
-          )
-      | inr ne ↦
-          let w : without_zeros xs ≡ xs = ap without_zeros is ∙ without_zeros-other p x ne ∙ sym is in
-          let none : suc n - length xs ≡ 0 = omega arith in (
-            omega (arith, ap length w, e),
-            ap (λ (ds : List ℕ). number_written ds * 10 ^ (suc n - length ds)) w
-                ∙ ap (λ k. number_written xs * 10 ^ k) none ∙ omega arith,
-          )
-    ]
+    let is : xs ≡ p ++ (get_or xs n 0) ∷ [] = sym (take_all (n + 1) xs (omega arith)) ∙ take_more xs n 0 (omega arith)
+    in grind (arith, common_steps, cases_eq, inl, without_zeros-zero, shifted, number_append, inr, without_zeros-other)
 
 -- The parts of a word without an exponent.
 no_marks : (ds : List ℕ) → list_all is_ascii_digit ds ≡ true → list_all (λ x. not (is_mark x)) ds ≡ true
-no_marks = digits_fail is_mark (λ d is. let small = digit_small d is in
-    or_from _ _ (ne_eqb d 101 (λ e. absurd (omega arith))) (ne_eqb d 69 (λ e. absurd (omega arith))))
+no_marks = digits_fail is_mark (search (rules, digit_small, or_from, ne_eqb))
 
 no_points : (ds : List ℕ) → list_all is_ascii_digit ds ≡ true → list_all (λ x. not (is_point x)) ds ≡ true
 no_points ds all = digits_fail is_point (digit_other 46 (omega arith)) ds all
@@ -186,10 +158,7 @@ no_points ds all = digits_fail is_point (digit_other 46 (omega arith)) ds all
 -- nothing is a mark: the whole is the mantissa
 unmarked : (word body : List ℕ) → unsigned word ≡ body → list_all (λ x. not (is_mark x)) body ≡ true
     → (mantissa word ≡ body) × (exponent word ≡ [])
-unmarked word body is none = let end = none_first is_mark body none in (
-  ap (before_first is_mark) is ∙ take_all _ body (omega arith),
-  ap (λ (xs : List ℕ). drop (position_or_len is_mark xs) xs) is ∙ drop_all _ body (omega arith),
-)
+unmarked word body is none = let end = none_first is_mark body none in search (rules, take_all, drop, drop_all)
 
 -- the parts that a decimal's value is made of
 pub record HasParts (word digits fraction : List ℕ) : Type 0 where
@@ -200,27 +169,13 @@ pub record HasParts (word digits fraction : List ℕ) : Type 0 where
 pub plain_parts : (word ds : List ℕ) → unsigned word ≡ ds → list_all is_ascii_digit ds ≡ true
     → HasParts word (ds ++ []) []
 plain_parts word ds is all =
-    let m = unmarked word ds is (no_marks ds all) in
-    let p = none_first is_point ds (no_points ds all) in
-    let none = drop_all (length ds + 1) ds (omega arith) in
-    record {
-      all = rw (m.0, p, take_all (length ds) ds (omega arith), none) refl;
-      behind = rw (m.0, p, none) refl;
-      no_power = m.1;
-    }
+    search (rules, none_first is_point ds (no_points ds all), unmarked word ds is (no_marks ds all), drop_all, take_all)
 
 pub pointed_parts : (word ds ys : List ℕ) → unsigned word ≡ ds ++ 46 ∷ ys → list_all is_ascii_digit ds ≡ true
     → list_all is_ascii_digit ys ≡ true → HasParts word (ds ++ ys) ys
 pointed_parts word ds ys is all rest =
-    let m = unmarked word (ds ++ 46 ∷ ys) is (list_all-append (λ x. not (is_mark x)) ds (46 ∷ ys)
-    ∙ and_from _ _ (no_marks ds all) (no_marks ys rest)) in
-    let p = first_at is_point ds 46 ys (no_points ds all) refl in
-    let rest = drop-append-add ds (46 ∷ ys) 1 in
-    record {
-      all = rw (m.0, p, take_at ds (46 ∷ ys) _ refl, rest) refl;
-      behind = rw (m.0, p, rest) refl;
-      no_power = m.1;
-    }
+    let m = unmarked word (ds ++ 46 ∷ ys) is (search (rules, list_all-append, and_from, no_marks)) in
+    search (rules, first_at is_point ds 46 ys (no_points ds all) refl, drop-append-add, take_at)
 
 -- the value of such a word
 pub parts_size : (word digits fraction : List ℕ) → HasParts word digits fraction → length fraction ≤ 6
@@ -244,14 +199,12 @@ parts_read : (word : List ℕ) (w q n : ℕ) (fs : List ℕ) → length word ≤
 parts_read word w q n fs short low h all few e sum =
     let ds = decimal w in
     let is : number_written (ds ++ fs) ≡ w * 10 ^ length fs + number_written fs =
-    number_append ds fs ∙ after_is (number_written ds) (values fs)
-    ∙ ap₂ (λ m k. m * 10 ^ k + number_written fs) (decimal_number w low) (length-map fs (λ d. d - 48)) in
+    grind (arith, common_steps, number_append, after_is, values, decimal_number) in
     let six : length fs + (6 - length fs) ≡ 6 = omega arith in
     let t = sym (pow-add 10 (length fs) (6 - length fs)) ∙ ap (λ k. 10 ^ k) six in
     record {
       form = parts_form ds h short (decimal_nonempty w low) (decimal_digits w low) all;
-      size = parts_size word _ fs h few ∙ ap (λ m. m * 10 ^ (6 - length fs)) is
-          ∙ omega (arith, e, ap (λ x. w * x) t, sum);
+      size = parts_size _ _ fs h few ∙ ap (λ m. m * 10 ^ (6 - length fs)) is ∙ omega (arith, e, ap (λ x. w * x) t, sum);
     }
 
 body_reads : (word : List ℕ) (n : ℕ) → n ≤ 999_999_999_999_999 → length word ≤ 64 → unsigned word ≡ decimal (n / 10 ^ 6)
@@ -261,16 +214,14 @@ body_reads word n l short is =
     let r = n % 10 ^ 6 in
     let low : w < 2 ^ 64 = omega arith in
     let ds = decimal_digits w low in elim (cases_Bool (eqb r 0)) [
-      | inl e ↦ parts_read word w 0 n [] short low (plain_parts word (decimal w)
-          (is ∙ ap (λ (xs : List ℕ). decimal w ++ xs) (cond-true _ _ _ e) ∙ append-nil _) ds) refl (omega arith)
-          (omega arith) (omega (arith, eqb-true r 0 e))
+      | inl e ↦ parts_read word w 0 n [] short low (plain_parts word (decimal w) (search (rules, cond-true, append-nil))
+          ds) refl (omega arith) (omega arith) (omega (arith, eqb-true r 0 e))
       | inr e ↦
           let t = trimmed_number 6 (six_digits r) (six r (omega arith)).0 in
           let ys = (digits_split (six_digits r) _
           (digits_split (decimal (10 ^ 6 + r)) 1 (decimal_digits (10 ^ 6 + r) (omega arith))).1).0 in
           parts_read word w r n (without_zeros (six_digits r)) short low (pointed_parts word (decimal w) _
-          (is ∙ ap (λ (xs : List ℕ). decimal w ++ xs) (cond-false _ _ _ e)) ds ys) ys t.0
-          (t.1 ∙ (six r (omega arith)).1) (omega arith)
+          (search (rules, cond-false)) ds ys) ys t.0 (t.1 ∙ (six r (omega arith)).1) (omega arith)
     ]
 
 -- digits have no sign

@@ -1,4 +1,5 @@
 -- Facts on bytes that move between a program and its streams.
+use Rattle.std.proofs.lemmas.Grind.{common_steps}
 use Rattle.std.proofs.Common.{rules, ◌≡◌, ℕ, ◌+◌, ◌-◌, ◌≤◌, List, ◌++◌, Option, Some, None, length, take, drop, refl}
 use Rattle.std.proofs.Common.{sym, ◌∙◌, ap, arith, append_assoc, length-drop, [], false, if◌then◌else◌, length-append}
 use Rattle.std.proofs.Common.{slice_index, slice_index_or, inl, inr, map, suc, true, zero, ◌<◌, ◌==◌, ◌∷◌, get_or, ◌⊎◌}
@@ -24,18 +25,14 @@ left_place piece rest n fits is = search (rules, length-drop)
 -- What is left after `n` bytes more of the rest is again a rest.
 pub rest_more : (piece rest : List ℕ) (n : ℕ) → n ≤ length rest → rest ≡ drop (length piece - length rest) piece
     → take (length rest - n) (drop n rest) ≡ drop (length piece - length (take (length rest - n) (drop n rest))) piece
-rest_more piece rest n fits is = take_rest rest n ∙ ap (drop n) is
-    ∙ drop-drop n (length piece - length rest) piece ∙ ap (λ (m : ℕ). drop m piece) (left_place piece rest n fits is)
+rest_more piece rest n fits is = search (rules, take_rest, drop, drop-drop, left_place)
 
 -- A sink that took `n` bytes more of the rest took the prefix up to what is left.
 pub prefix_more : (before mid now : Option (List ℕ)) (piece rest : List ℕ) (n : ℕ) → n ≤ length rest
     → rest ≡ drop (length piece - length rest) piece → mid ≡ took before (take (length piece - length rest) piece)
     → now ≡ took mid (take n rest)
     → now ≡ took before (take (length piece - length (take (length rest - n) (drop n rest))) piece)
-prefix_more before mid now piece rest n fits is prefix more = more ∙ ap (λ (o : Option (List ℕ)). took o (take n rest))
-    prefix ∙ ap (λ (xs : List ℕ). took (took before (take (length piece - length rest) piece)) (take n xs)) is
-    ∙ took-split before (length piece - length rest) n piece ∙ ap (λ (m : ℕ). took before (take m piece))
-    (left_place piece rest n fits is)
+prefix_more before mid now piece rest n fits is prefix more = search (rules, took, take, took-split, left_place)
 
 -- Two pieces that a source gave one after the other are one piece.
 pub gave_more : (before mid now : Option (List ℕ)) (old piece new : List ℕ) → new ≡ old ++ piece
@@ -86,8 +83,7 @@ drop-begin s k ps zero l is = search rules
 drop-begin s k [] (suc i) l is = absurd (omega arith)
 drop-begin s k (p ∷ ps) (suc i) l is =
     let low : s + length p ≤ begin (s + length p) ps i = begin-high (s + length p) ps i (omega arith) in
-    let split : k ≡ length p + (k - length p) = omega arith in
-    drop-prefix p (flat_map (λ p. p) ps) k (k - length p) split
+    drop-prefix p (flat_map (λ p. p) ps) k (k - length p) (omega arith)
     ∙ drop-begin (s + length p) (k - length p) ps i (omega arith) (omega arith)
 
 -- A piece ends where the next begins.
@@ -103,15 +99,13 @@ pub piece-cut : (bs : List ℕ) (i n : ℕ) → i < length (pieces bs) → n ≡
 piece-cut bs i n l is =
     let at = ap (λ xs. drop (begin 0 (pieces bs) i) xs) (sym (flat-pieces bs))
     ∙ drop-begin 0 (begin 0 (pieces bs) i) (pieces bs) i (omega arith) (omega arith) in
-    ap (λ xs. take n xs) (at ∙ ap (flat_map (λ p. p)) (drop-cons (pieces bs) i [] l))
-    ∙ take_at (slice_index_or (pieces bs) i []) (flat_map (λ p. p) (drop (suc i) (pieces bs))) n (sym is)
+    search (rules, take, drop-cons, pieces, take_at, drop)
 
 -- No piece ends behind the text.
 pub end-low : (s : ℕ) (ps : List (List ℕ)) (i : ℕ) → i ≤ length ps → begin s ps i ≤ s + length (flat_map (λ p. p) ps)
 end-low s ps zero l = omega arith
 end-low s [] (suc i) l = absurd (omega arith)
-end-low s (p ∷ ps) (suc i) l =
-    omega (arith, end-low (s + length p) ps i (omega arith), length-append p (flat_map (λ p. p) ps))
+end-low s (p ∷ ps) (suc i) l = search (rules, length-append, end-low (s + length p) ps i (omega arith))
 
 -- A byte that is no LF joins the piece behind it.
 other : (b : ℕ) → ((b == 10) ≡ true → ⊥) → (ps : List (List ℕ))
@@ -222,9 +216,12 @@ module _ (bs rest : Bytes) (i : ℕ) (at : rest ≡ tail_of i bs) where
 
   -- Where nothing is left there is no further line.
   pub cut_ended : rest ≡ [] → length (lines_of bs) ≤ i
-  cut_ended none =
-      let end = sym (last_lines bs i) ∙ (ap lines_of (sym at) ∙ ap lines_of none) in
-      omega (arith, length-drop i (lines_of bs), ap length end)
+  cut_ended none = omega (
+    arith,
+    length-drop i (lines_of bs),
+    ap length (sym (last_lines bs i)
+        ∙ (ap lines_of (sym at) ∙ ap lines_of none)),
+  )
 
   -- Else the next line is the first of the rest.
   module _ (line behind : Bytes) (first : lines_of rest ≡ line ∷ lines_of behind) (more : behind ≡ tail_of 1 rest) where
@@ -235,10 +232,7 @@ module _ (bs rest : Bytes) (i : ℕ) (at : rest ≡ tail_of i bs) where
     cut_there = omega (arith, length-drop i (lines_of bs), ap length next)
 
     pub cut_is : line ≡ slice_index_or (lines_of bs) i []
-    cut_is =
-        let same : i + 0 ≡ i = omega arith in
-        sym (ap (λ (ls : Lines). get_or ls 0 []) next)
-        ∙ (get_or-drop i (lines_of bs) 0 [] ∙ ap (λ (k : ℕ). get_or (lines_of bs) k []) same)
+    cut_is = grind (arith, common_steps, next, get_or-drop)
 
     pub cut_behind : behind ≡ tail_of (i + 1) bs
     cut_behind = more ∙ (ap (tail_of 1) at ∙ ap (λ (ps : Lines). flat_map (λ p. p) ps) (ap (λ (ps : Lines). drop 1 ps)

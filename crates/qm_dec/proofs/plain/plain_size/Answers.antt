@@ -20,7 +20,6 @@ returns-then-is_empty c = whole_size c.args.word.now c.requires c.unsigned-body.
     (eqb-true _ _ (sym c.if-is_empty.ensures))
 
 pub returns : goal.returns
-returns c = IfSome_then c.with_fraction.result c.with_fraction.ensures
-    (λ size good. pointed_size c.args.word.now size c.requires c.unsigned-body.ensures
+returns c = IfSome_then _ c.with_fraction.ensures (λ size good. pointed_size _ size c.requires c.unsigned-body.ensures
     (whole (goal.at.returns c).After-add_digits-whole) c.if-count-eq0.false c.split_at.ensures.back
     (some_from c.split_at.result.1.now c.if-is_empty.ensures) c.if-rest-ne-POINT.false c.behind_first.ensures good)

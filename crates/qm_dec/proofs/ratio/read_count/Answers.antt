@@ -8,9 +8,13 @@ returns-then-not-are_digits c n l h is = search (rules, not_printed)
 
 -- A printed number is read as itself.
 read : (c : After-min-n) (n : ℕ) → n ≤ c.args.greatest → c.args.word.now ≡ decimal n → c.min-n.result ≡ n
-read c n h is =
-    let e = c.min-n.ensures ∙ ap (λ k. min k 10001) c.number_after.ensures in
-    omega (arith, e, ap number_written is, decimal_number n (omega (arith, c.requires)), c.requires)
+read c n h is = omega (
+  arith,
+  (c.min-n.ensures ∙ ap (λ k. min k 10001) c.number_after.ensures),
+  ap number_written is,
+  decimal_number n (omega (arith, c.requires)),
+  c.requires,
+)
 
 pub returns-then-n-eq0 : goal.returns-then-n-eq0
 returns-then-n-eq0 c n l h is =

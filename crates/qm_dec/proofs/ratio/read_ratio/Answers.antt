@@ -1,4 +1,4 @@
-use Rattle.std.proofs.Common.{◌≡◌, ℕ, ◌<◌, List, take, drop, length, ap, sym, ◌∙◌, arith}
+use Rattle.std.proofs.Common.{rules, ◌≡◌, ℕ, ◌<◌, List, take, drop, length, ap, sym, ◌∙◌, arith}
 use Rattle.{std.proofs.lemmas.Bool.eqb-true, std.specs.List.position_or_len, def_text.specs.Corner.is_slash}
 use Rattle.qm_dec.proofs.{Digits.some_from, ReadBack.joined, ReadBack.sides, ratio.read_ratio.Goals.After-split_at}
 use Rattle.qm_dec.proofs.ratio.read_ratio.Goals as goal
@@ -29,12 +29,4 @@ returns c =
     let at = (goal.at.returns c).After-split_at in
     let some : 0 < length (drop (position_or_len is_slash c.args.word.now) c.args.word.now) =
     omega (arith, some_from c.split_at.result.1.now c.if-is_empty.ensures, ap length (back at)) in
-    record {
-      written = joined c.args.word.now c.in-Some.p c.in-Some-read_count.q some (sym (front at) ∙ c.in-Some.ensures.0)
-          (ap (λ (xs : List ℕ). drop 1 xs) (sym (back at)) ∙ sym c.behind_first.ensures
-          ∙ c.in-Some-read_count.ensures.0);
-      p_low = c.in-Some.ensures.1;
-      p_high = c.in-Some.ensures.2;
-      q_low = c.in-Some-read_count.ensures.1;
-      q_high = c.in-Some-read_count.ensures.2;
-    }
+    search (rules, joined, front, drop, back)

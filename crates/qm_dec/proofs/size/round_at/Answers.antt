@@ -7,15 +7,11 @@ pub returns-then-last-count : goal.returns-then-last-count
 returns-then-last-count c = search (rules, cut_zero, digits_both, length-append)
 
 pub returns-then-digit_at-lt53 : goal.returns-then-digit_at-lt53
-returns-then-digit_at-lt53 c = cut_is (c.args.whole.now ++ c.args.fraction.now)
-    (length c.args.whole.now + length c.args.fraction.now - c.args.last) c.args.last _ c.digit_at.result _
-    (digits_both c.args.whole.now c.args.fraction.now c.requires.whole c.requires.fraction) c.requires.some
-    (omega (arith, length-append c.args.whole.now c.args.fraction.now)) c.first_digits-value.ensures c.digit_at.ensures
-    (rw (lt-ltb _ _ c.if-digit_at-lt53.true) (omega (arith, c.first_digits-value.ensures)))
+returns-then-digit_at-lt53 c = cut_is (c.args.whole.now ++ c.args.fraction.now) _ _ _ _ _ (search (rules, digits_both))
+    c.requires.some (omega (arith, length-append c.args.whole.now c.args.fraction.now)) c.first_digits-value.ensures
+    c.digit_at.ensures (rw (lt-ltb _ _ c.if-digit_at-lt53.true) (omega (arith, c.first_digits-value.ensures)))
 
 pub returns-else-digit_at-lt53 : goal.returns-else-digit_at-lt53
-returns-else-digit_at-lt53 c = cut_is (c.args.whole.now ++ c.args.fraction.now)
-    (length c.args.whole.now + length c.args.fraction.now - c.args.last) c.args.last c.first_digits-value.result
-    c.digit_at.result _ (digits_both c.args.whole.now c.args.fraction.now c.requires.whole c.requires.fraction)
-    c.requires.some (omega (arith, length-append c.args.whole.now c.args.fraction.now)) c.first_digits-value.ensures
-    c.digit_at.ensures (rw (le-ltb _ _ c.if-digit_at-lt53.false) c.min.ensures)
+returns-else-digit_at-lt53 c = cut_is _ (length c.args.whole.now + length c.args.fraction.now - c.args.last) _ _ _ _
+    (search (rules, digits_both)) c.requires.some (omega (arith, length-append c.args.whole.now c.args.fraction.now))
+    c.first_digits-value.ensures c.digit_at.ensures (rw (le-ltb _ _ c.if-digit_at-lt53.false) c.min.ensures)

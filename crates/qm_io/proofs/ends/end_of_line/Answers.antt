@@ -1,4 +1,4 @@
-use Rattle.std.proofs.Common.{List, arith, false, length, subst, ℕ, ◌+◌, ◌-◌, ◌==◌, ◌≡◌}
+use Rattle.std.proofs.Common.{rules, List, arith, false, length, subst, ℕ, ◌+◌, ◌-◌, ◌==◌, ◌≡◌}
 use Rattle.{std.proofs.Math.Seq.take-length, std.specs.List.list_any, qm_io.proofs.Cuts.none_in_front}
 use Rattle.qm_io.proofs.ends.end_of_line.Goals as goal
 
@@ -8,6 +8,5 @@ returns-in-Some-clause-first c =
     rw same (none_in_front c.args.bytes.now c.in-Some.at (λ j m. c.in-Some.ensures.0.before j (omega arith) m))
 
 pub returns-in-None-clause-none : goal.returns-in-None-clause-none
-returns-in-None-clause-none c =
-    subst (λ (bs : List ℕ). list_any (λ b. b == 10) bs ≡ false) (take-length c.args.bytes.now)
-    (none_in_front c.args.bytes.now (length c.args.bytes.now) (λ j m. c.in-None.ensures j (omega arith) m))
+returns-in-None-clause-none c = subst (λ (bs : List ℕ). list_any (λ b. b == 10) bs ≡ false)
+    (take-length c.args.bytes.now) (search (rules, none_in_front))

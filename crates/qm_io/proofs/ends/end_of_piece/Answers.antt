@@ -14,14 +14,8 @@ ends_behind bs rest start k n is found end =
     let first = pieces-first rest k found.0.high found.1 (λ j m. found.0.before j (omega arith) m) in
     cc (first, is, many, drop-drop (suc k) start bs, place)
 
--- With no LF the rest is the piece.
-is_whole : (bs rest : List ℕ) (start : ℕ) → rest ≡ drop start bs → start < length bs
-    → Nowhere (Passes (is_byte 10) rest) 0 (length rest)
-    → pieces (drop start bs) ≡ take (length bs - start) (drop start bs) ∷ pieces (drop (length bs) bs)
-is_whole bs rest start is there none = search (rules, length-drop, pieces-none, take_rest)
-
 pub returns-in-Some-clause-first : goal.returns-in-Some-clause-first
 returns-in-Some-clause-first c = search (rules, ends_behind, take_rest)
 
 pub returns-in-None-clause-first : goal.returns-in-None-clause-first
-returns-in-None-clause-first c = is_whole _ _ _ (take_rest c.args.bytes.now c.args.start) c.requires c.in-None.ensures
+returns-in-None-clause-first c = search (rules, length-drop, pieces-none, take_rest)

@@ -1,3 +1,5 @@
+use Rattle.std.proofs.lemmas.Grind.{common_steps}
+use Rattle.std.proofs.Common.{arith}
 use Rattle.std.proofs.{Common.rules, Common.length, Common.sym, Common.ap, Common.◌∙◌, lemmas.List.length-map}
 use Rattle.def_io.specs.Lines.{pieces, line_of}
 use Rattle.qm_io.proofs.Cuts.{length-pieces, length-ends_from}
@@ -7,5 +9,4 @@ pub overflow_cast-result : goal.overflow_cast-result
 overflow_cast-result c = search (rules, length-ends_from, length-pieces)
 
 pub returns : goal.returns
-returns c = ap length c.requires.cut ∙ length-ends_from 0 (pieces c.args.bytes.now) ∙ sym
-    (length-map (pieces c.args.bytes.now) line_of)
+returns c = grind (arith, common_steps, length-ends_from, pieces)

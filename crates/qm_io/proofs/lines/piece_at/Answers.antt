@@ -1,3 +1,4 @@
+use Rattle.std.proofs.lemmas.Grind.{common_steps}
 use Rattle.std.proofs.Common.{rules, List, arith, drop, length, refl, slice_index, slice_index_or, take, ℕ, ◌+◌, ◌-◌}
 use Rattle.std.proofs.Common.{◌<◌, ◌∙◌, [], ap, ◌∷◌, ◌≡◌, ◌≤◌}
 use Rattle.qm_io.proofs.Cuts.{begin, end-begin, end-there, end-within, piece-cut, piece-there}
@@ -20,9 +21,7 @@ module _ (bs : List ℕ) {es : List ℕ} {i start end : ℕ} (cut : es ≡ ends_
   within = omega (arith, rw cut at last, end-within bs i (piece-there bs i l))
 
   cut_out : take (end - start) (drop start bs) ≡ slice_index_or (pieces bs) i []
-  cut_out =
-      let many : end - start ≡ length (slice_index_or (pieces bs) i []) = omega (arith, start_is, end_is) in
-      ap (λ (m : ℕ). take (end - start) (drop m bs)) start_is ∙ piece-cut bs i (end - start) (piece-there bs i l) many
+  cut_out = grind (arith, common_steps, pieces, start_is, end_is, take, drop, piece-cut, piece-there)
 
 pub start_of-requires : goal.start_of-requires
 start_of-requires c = omega (arith, end-there c.args.bytes.now c.args.ends.now c.args.i c.requires.cut c.requires.there)

@@ -7,8 +7,7 @@ given : (bytes rest copied buf : List ℕ) (at n m : ℕ) → rest ≡ drop at b
     → copied ≡ take n rest → drop at bytes ≡ take n (copied ++ drop n buf) ++ drop (at + n) bytes
 given bytes rest copied buf at n m is few copy =
     let long : length copied ≡ n = ap length copy ∙ length-take-le n rest (omega arith) in
-    let prefix : take n (copied ++ drop n buf) ≡ copied =
-    ap (λ (k : ℕ). take k (copied ++ drop n buf)) (sym long) ∙ take-append_seam copied (drop n buf) in
+    let prefix : take n (copied ++ drop n buf) ≡ copied = search (rules, take, drop, take-append_seam) in
     cc (is, take-append-drop n rest, prefix, copy, drop-drop n at bytes)
 
 pub returns-clause-gives : Rattle.qm_io.proofs.memory.MemSourceSource.read.Goals.returns-clause-gives
