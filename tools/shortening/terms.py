@@ -218,14 +218,19 @@ class Terms:
         else:
             self.application(at, end)
 
-    def let(self, at: int, end: int) -> None:
+    def end_of_let(self, at: int) -> int | None:
+        """Where the `in` of a `let` stands."""
         depth, to = 0, at
-        while to < end:
+        while to < len(self.tokens):
             depth += {"let": 1, "in": -1}.get(self.word(to), 0)
             if depth == 0:
-                break
+                return to
             to = self.behind(to)
-        if to >= end:
+        return None
+
+    def let(self, at: int, end: int) -> None:
+        to = self.end_of_let(at)
+        if to is None or to >= end:
             return
         equals = self.find(at + 1, to, {"="})
         if equals is not None:

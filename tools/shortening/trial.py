@@ -14,7 +14,7 @@ from shortening.lines import refilled
 from shortening.terms import TACTICS, WORD, Call, Declaration, Right, Span, Terms, bound_in, declarations, heads_in
 
 GIVEN = {"search": "rules", "grind": "arith"}
-BOUNDS = {"search": " fits 150 steps 1500000", "grind": " steps 600000"}
+BOUNDS = {"search": " fits 100 steps 500000", "grind": " steps 250000"}
 COMMON = "Rattle.std.proofs.Common"
 MODULES = {"rules": COMMON, "arith": COMMON, "common_steps": "Rattle.std.proofs.lemmas.Grind"}
 MOST_FACTS = 14
@@ -33,7 +33,7 @@ class NoVerdict(Exception):
 
 @dataclass(frozen=True)
 class Edit:
-    """Another text for characters of a declaration: a tactic with these facts, or `_`."""
+    """Another text for characters of a declaration: a tactic with these facts, `_`, or any other."""
 
     path: Path
     first: int
@@ -41,6 +41,7 @@ class Edit:
     end: int
     facts: tuple[str, ...] | None
     tactic: str = "search"
+    other: str | None = None
 
     @property
     def place(self) -> tuple[Path, int]:
@@ -50,6 +51,8 @@ class Edit:
         return self.place == other.place and self.start <= other.start and other.end <= self.end
 
     def text(self, is_bounded: bool = False) -> str:
+        if self.other is not None:
+            return self.other
         if self.facts is None:
             return "_"
         names = ", ".join((GIVEN[self.tactic], *self.facts))
@@ -271,7 +274,7 @@ def imported(lines: list[str]) -> tuple[list[str], int]:
         if at is not None:
             found[at] = found[at].replace(head, f"{head}{name}, ", 1)
         else:
-            first = next((n for n, line in enumerate(found) if line.startswith("use ")), 1)
+            first = next(n for n, line in enumerate(found) if not line.startswith("--"))
             found.insert(first, f"{head}{name}}}")
             shift += 1
     return found, shift

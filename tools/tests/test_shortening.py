@@ -10,6 +10,7 @@ sys.path.insert(0, str(pathlib.Path(__file__).resolve().parents[1]))
 from shortening.lines import refilled  # noqa: E402
 from shortening.terms import Terms, bound_in, declarations, heads_in  # noqa: E402
 from shortening.trial import Edit, Proofs, edited, imported, outermost, renamed  # noqa: E402
+from shortening.unneeded import fewer_facts, fewer_lets  # noqa: E402
 
 FILE = """-- Two lemmas.
 use Rattle.std.proofs.Common.{◌≡◌, ℕ, zero, suc}
@@ -71,6 +72,27 @@ class Read(unittest.TestCase):
         self.assertEqual(heads_in("(b.0 e)"), {"b", "e"})
 
 
+class Unneeded(unittest.TestCase):
+    def without(self, text, word):
+        terms = Terms(text)
+        at = next(number for number, (found, _, _) in enumerate(terms.tokens) if found == word)
+        changes = fewer_lets(terms, at) if word == "let" else fewer_facts(terms, at)
+        return [text[:start] + put + text[end:] for start, end, put in changes]
+
+    def test_facts(self):
+        self.assertEqual(self.without("f (cc (a, b 1))", "cc"), [])
+        self.assertEqual(self.without("omega (arith, a 1)", "omega"), ["omega arith"])
+        self.assertEqual(self.without("omega (arith, a 1, b)", "omega"), ["omega (arith, b)", "omega (arith, a 1)"])
+        self.assertEqual(self.without("cc (a, b, c)", "cc"), ["cc (b, c)", "cc (a, c)", "cc (a, b)"])
+
+    def test_lets(self):
+        self.assertEqual(self.without("let a : n < 3 = low in search rules", "let"), ["search rules"])
+        self.assertEqual(self.without("let a = low n in f a.1 n", "let"), ["f (low n).1 n"])
+        self.assertEqual(self.without("let a = low n in f a a", "let"), [])
+        self.assertEqual(self.without("let a = low n in λ n. f a", "let"), [])
+        self.assertEqual(self.without("let a = search rules in f a", "let"), [])
+
+
 class Written(unittest.TestCase):
     def setUp(self):
         self.low, self.high = declarations(FILE)
@@ -103,11 +125,12 @@ class Written(unittest.TestCase):
 
     def test_tactics(self):
         grind = Edit(pathlib.Path("A.antt"), 0, 7, 8, ("common_steps",), "grind")
-        self.assertEqual(edited("high = 3", [grind], is_bounded=True)[7:], "grind (arith, common_steps) steps 600000")
+        self.assertEqual(edited("high = 3", [grind], is_bounded=True)[7:], "grind (arith, common_steps) steps 250000")
         lines, shift = imported(["-- The rules.", FILE[1], "", "high = grind (arith, common_steps)"])
         self.assertEqual(shift, 1)
         self.assertEqual(lines[1], "use Rattle.std.proofs.lemmas.Grind.{common_steps}")
         self.assertEqual(lines[2], "use Rattle.std.proofs.Common.{arith, ◌≡◌, ℕ, zero, suc}")
+        self.assertEqual(imported(["low = omega arith"])[0][0], "use Rattle.std.proofs.Common.{arith}")
 
     def test_copies_have_a_name_of_their_own(self):
         copy = renamed(self.low, "pub low : (low_of, low)", "tried1_low")
