@@ -84,16 +84,11 @@ module _ {mesh : HalfEdges} (laws : IsQuadManifold mesh) {cut : Cut} (full : IsC
   over : (k : ℕ) {w h : ℕ} {cell : Cells} → IsGrid mesh cut w h cell → (a b x : ℕ) → a < w → b < h
       → x ≡ spin mesh k (cell a b) → cut x ≡ false → HasOther mesh w h cell k x
   over zero grid a zero x la lb e off = absurd (cc (grid.south_shut a la))
-  over zero {cell} grid a (suc b) x la lb e off = (
-    mesh.next (mesh.next (cell a b)),
-    cc (south laws full grid a b la lb),
-    record { a = a; b = b; a_low = la; b_low = omega arith; is = refl },
-  )
+  over zero {cell} grid a (suc b) x la lb e off = grind (arith, south laws full grid a b la lb)
   over (suc k) {w} {h} {cell} grid a b x la lb e off =
       let same : w - suc (w - suc a) ≡ a = omega arith in
       search (
         rules,
-        spin_next,
         turn_back,
         over k (quarter_grid laws full grid) b (w - suc a) x lb (omega arith)
             (cc (same, spin_next laws k (cell a b))) off,
@@ -105,16 +100,7 @@ module _ {mesh : HalfEdges} (laws : IsQuadManifold mesh) {cut : Cut} (full : IsC
   -- b is at most the corner darts of a grid turned by a quarter, which are the same.
   quarter_most : {w h m : ℕ} {cell : Cells} → IsGrid mesh cut w h cell → AtMost mesh w h cell m
       → AtMost mesh h w (quarter mesh w cell) m
-  quarter_most {w} {h} {m} {cell} grid least = record {
-    first = least.east (w - 1) (omega (arith, grid.wide));
-    east = λ i e. least.far (w - 1) i (omega (arith, grid.wide)) e;
-    far = λ i j e z.
-        let last : w - suc j ≡ 0 = omega arith in
-        let same : mesh.prev (cell 0 i) ≡ mesh.next (mesh.next (mesh.next (cell (w - suc j) i))) =
-        cc (last, prev_three laws (cell 0 i)) in
-        omega (arith, least.north i e);
-    north = search rules;
-  }
+  quarter_most {w} {h} {m} {cell} grid least = grind (arith, least.east (w - 1), prev_three laws)
 
   -- Each corner of the class is one of the four of the grid.
   least_corner : (k : ℕ) {w h m : ℕ} {cell : Cells} → IsGrid mesh cut w h cell → AtMost mesh w h cell m → (a b : ℕ)
@@ -142,11 +128,7 @@ module _ {mesh : HalfEdges} (laws : IsQuadManifold mesh) {cut : Cut} (full : IsC
         let (k, at) = closed d l.0 n l.1 i in
         elim l.2 [
           | inl s ↦ (suc k, record { a = at.a; b = at.b; a_low = at.a_low; b_low = at.b_low; is = cc (s, at.is) })
-          | inr o ↦ (
-            suc (suc k),
-            (let r = over k grid at.a at.b l.0 at.a_low at.b_low at.is o.0 in
-                rw (same_Some r.0 e (sym r.1 ∙ o.1)) at r.2),
-          )
+          | inr o ↦ (suc (suc k), (grind (arith, over k grid at.a at.b l.0 at.a_low at.b_low at.is o.0)))
         ]
 
     -- The whole grid is of one class.

@@ -1,4 +1,5 @@
 -- Each class of faces of a traced cut has a corner: it lies at the start of a trail, or where another trail ends on it.
+use Rattle.std.proofs.Common.{arith}
 use Rattle.std.proofs.Common.{rules, ◌≡◌, ◌⊎◌, ℕ, zero, suc, ◌<◌, Bool, true, false, Some, sym, ◌∙◌, ap, refl, inl, inr}
 use Rattle.{std.proofs.lemmas.Bool.cases_Bool, cut_laws.proofs.Folds.spin_next, cut_laws.proofs.Folds.turn_low}
 use Rattle.def_mesh.specs.HalfEdges.{HalfEdges, IsQuadManifold}
@@ -18,12 +19,9 @@ module _ {mesh : HalfEdges} (laws : IsQuadManifold mesh) {start cut : ℕ → Bo
   from_class : (d e : ℕ) → AreLinked mesh cut d e → CornerOf mesh cut e → CornerOf mesh cut d
   from_class d e l c = corner_at d c.0 (links_join laws cut d e c.0 l (c.1, c.2)) c.3
 
-  start_corner : (d : ℕ) → d < mesh.count → start d ≡ true → IsCorner mesh cut d
-  start_corner d ld on = (ld, traced.started d ld on, traced.before d ld on)
-
   -- Back along a trail on its own side,
   beside : (k d : ℕ) → d < mesh.count → cut d ≡ true → Trail mesh start cut d k → CornerOf mesh cut d
-  beside zero d ld on trail = corner_at d d (0, refl) (start_corner d ld trail)
+  beside zero d ld on trail = search rules
   beside (suc k) d ld on trail =
       let rest = beside k _ trail.2 trail.3 trail.1 in
       elim (cases_Bool (cut (mesh.prev d))) [
@@ -37,15 +35,12 @@ module _ {mesh : HalfEdges} (laws : IsQuadManifold mesh) {start cut : ℕ → Bo
 
   -- and back along it on the other side.
   next_corner : (d : ℕ) → d < mesh.count → cut d ≡ true → cut (mesh.next d) ≡ true → CornerOf mesh cut d
-  next_corner d ld on next = corner_at d _ (step_next laws cut d d (0, refl))
-      (laws.next_low d ld, next, cc (laws.prev_next d))
+  next_corner d ld on next = grind (arith, step_next laws cut d d (0, refl))
 
   across : (k d t : ℕ) → d < mesh.count → cut d ≡ true → mesh.twin d ≡ Some t → Trail mesh start cut t k
       → CornerOf mesh cut d
-  across zero d t ld on tw trail =
-      next_corner d ld on (traced.beside t d (laws.twin_low d t ld tw) trail (laws.twin_twin d t ld tw))
-  across (suc k) d t ld on tw trail = by_next (cases_Bool (cut (mesh.next d))) _ trail.2 trail.3 trail.4 trail.5.3
-      (λ b lb onb tb. across k b _ lb onb tb trail.1)
+  across zero d t ld on tw trail = next_corner d ld on (grind arith)
+  across (suc k) d t ld on tw trail = search (rules, by_next (cases_Bool (cut (mesh.next d))), across k)
     where
       by_next : (cut (mesh.next d) ≡ true) ⊎ (cut (mesh.next d) ≡ false) → (c : ℕ) → c < mesh.count → cut c ≡ true
           → IsStraight mesh c t → {a b e : ℕ} → IsCross mesh t a b e
@@ -56,12 +51,11 @@ module _ {mesh : HalfEdges} (laws : IsQuadManifold mesh) {start cut : ℕ → Bo
           let second : mesh.twin c ≡ Some b = cc (laws.prev_next c) in
           let lb = laws.twin_low c b lc second in
           let le = turn_low laws b e lb is.third in
-          let last : mesh.prev e
-          ≡ d = cc (laws.twin_twin (mesh.prev e) t (laws.prev_low e le) is.last, laws.twin_twin d t ld tw) in
+          let last : mesh.prev e ≡ d = grind (arith, laws.twin_twin d t ld tw) in
           let right : e ≡ mesh.next d = cc (laws.next_prev e) in
           let over = ap mesh.twin (sym right) ∙ laws.twin_twin _ e (laws.prev_low b lb) is.third in
-          let linked = step_over laws cut d _ _ (step_next laws cut d d (0, refl)) off over in
-          let there = rw (laws.next_prev b) at (step_next laws cut d _ linked) in
+          let linked = step_over laws _ d _ _ (step_next laws cut d d (0, refl)) off over in
+          let there = rw (laws.next_prev b) at (step_next laws _ d _ linked) in
           from_class d b there (rest b lb (traced.alike c b lc second ∙ onc) (laws.twin_twin c b lc second))
 
   -- A walk through the component stays in the class, or meets a cut edge with two darts.
@@ -115,5 +109,4 @@ module _ {mesh : HalfEdges} (laws : IsQuadManifold mesh) where
   pub spun : (k l x y : ℕ) → spin mesh k x ≡ spin mesh l y → (n : ℕ) × (x ≡ spin mesh n y)
   spun k l x y e =
       let b = spin_back k x in
-      let j = spin_join b.0 l y in
-      (j.0, cc)
+      grind (arith, spin_join b.0 l y)

@@ -60,12 +60,7 @@ module _ {mesh : HalfEdges} (laws : IsQuadManifold mesh) where
     among p back zero x t = (0, omega arith, t)
     among p back (suc n) x t =
         let (i, l, e) = among p back n t.0 t.1 in
-        elim t.3 [
-          | inl r ↦
-              let here : g (suc i) ≡ x = cc (is i, r) in
-              elim (cases_eq i p) [ inl s ↦ search rules | inr ne ↦ (suc i, omega arith, here) ]
-          | inr r ↦ back_to i l t.2 (r ∙ ap Some (sym e))
-        ]
+        grind (arith, is i, cases_eq i p, back_to i l t.2)
       where
         back_to : (i : ℕ) → i < suc p → x < mesh.count → mesh.twin (mesh.prev x) ≡ Some (g i)
             → (i : ℕ) × (i < suc p) × (g i ≡ x)
@@ -112,16 +107,13 @@ module _ {mesh : HalfEdges} (laws : IsQuadManifold mesh) where
     )
       where
         later : (p : ℕ) → p < 3 → turned mesh d (suc p) ≡ d → ⊥
-        later p l e = let h = fan.most (suc p) _ (all_among {g = turned mesh d} leaves turned_is p e) in omega arith
+        later p l e = let h = fan.most _ _ (all_among {g = turned mesh d} leaves turned_is p e) in omega arith
 
         back : (k : ℕ) → turned mesh d (suc k) ≡ d → suc k ≤ 4 → turned mesh d 4 ≡ d
-        back k e l = elim (cases_lt k 3) [
-          | inl low ↦ absurd (later k low e)
-          | inr high ↦ let three : k ≡ 3 = omega arith in rw three at e
-        ]
+        back k e l = grind (arith, later k)
 
         four : turned mesh d 4 ≡ d
-        four = elim (cases_eq (turned mesh d 4) d) [
+        four = elim (cases_eq _ d) [
           | inl e ↦ e
           | inr ne ↦ absurd (let h = fan.least 5 _ (record {
             each = λ j l. turned_leaves j;

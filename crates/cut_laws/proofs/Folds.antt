@@ -97,16 +97,13 @@ module _ {mesh : HalfEdges} (laws : IsQuadManifold mesh) {cut : Cut} (full : IsC
       tall = grid.wide;
       low = λ i j li lj. laws.next_low _ (grid.low (w - suc j) i (omega arith) li);
       east = λ i j li lj. rw laws.prev_next (grid.north (w - suc j) i (omega arith) li);
-      north = λ i j li lj. let e : w - suc j ≡ suc (w - suc (suc j)) = omega arith in
-          cc (e, prev_three laws (cell (w - suc j) i), west (w - suc (suc j)) i (omega arith) li);
+      north = λ i j li lj. grind (arith, prev_three laws (cell (w - suc j) i), west (w - suc (suc j)) i);
       east_open = λ i j li lj. grid.north_open (w - suc j) i (omega arith) li;
-      north_open = λ i j li lj. let e : w - suc j ≡ suc (w - suc (suc j)) = omega arith in
-          cc (e, prev_three laws (cell (w - suc j) i), west_open (w - suc (suc j)) i (omega arith) li);
+      north_open = λ i j li lj. grind (arith, prev_three laws (cell (w - suc j) i), west_open (w - suc (suc j)) i);
       south_shut = λ i li. grid.east_shut (w - 1) i (omega (arith, grid.wide)) li;
       west_shut = λ j lj. rw laws.prev_next (grid.south_shut (w - suc j) (omega arith));
       east_shut = λ i j e lj. grid.north_shut (w - suc j) i (omega arith) e;
-      north_shut = λ i j li e. let z : w - suc j ≡ 0 = omega arith in
-          cc (z, prev_three laws (cell 0 i), grid.west_shut i li);
+      north_shut = search (rules, prev_three laws);
     }
 
   -- A cell that two grids have in common stands at one place in both, and both begin with one cell.
@@ -134,9 +131,7 @@ module _ {mesh : HalfEdges} (laws : IsQuadManifold mesh) {cut : Cut} (full : IsC
     common : {i a j b : ℕ} → i < w → a < v → j < h → b < g → cell i j ≡ tile a b
         → (i ≡ a) × (j ≡ b) × (cell 0 0 ≡ tile 0 0)
     common {i} {a} {j} {b} li la lj lb e =
-        let x = common_west one two i a li la lj lb e in
-        let y = common_south j b one.wide two.wide lj lb x.1 in
-        (x.0, y.0, y.1)
+        grind (arith, common_west one two i a li la lj lb e, common_south j b one.wide two.wide lj lb)
 
     -- Grids with one first cell have the same cells.
     cells_east : (cell 0 0 ≡ tile 0 0) → (i : ℕ) → i < w → i < v → cell i 0 ≡ tile i 0
@@ -148,13 +143,7 @@ module _ {mesh : HalfEdges} (laws : IsQuadManifold mesh) {cut : Cut} (full : IsC
     cells_north i (suc j) lw lv e lh lg = search (rules, cells_north i j lw lv e (omega arith) (omega arith))
 
     not_wider : cell 0 0 ≡ tile 0 0 → w < v → ⊥
-    not_wider e l =
-        let low : w - 1 < w = omega (arith, one.wide) in
-        cc (
-          one.east_shut (w - 1) 0 (omega arith) one.tall,
-          cells_east e (w - 1) low (omega arith),
-          two.east_open (w - 1) 0 (omega arith) two.tall,
-        )
+    not_wider e l = grind (arith, one.east_shut (w - 1) 0, cells_east e (w - 1), two.east_open (w - 1) 0)
 
   same_wide : {w h v g : ℕ} {cell tile : Cells} → IsGrid mesh cut w h cell → IsGrid mesh cut v g tile
       → cell 0 0 ≡ tile 0 0 → w ≡ v
@@ -166,13 +155,7 @@ module _ {mesh : HalfEdges} (laws : IsQuadManifold mesh) {cut : Cut} (full : IsC
   one_grid {w} {h} {v} {g} {cell} {tile} one two e =
       let wide = same_wide one two e in
       let last = cells_east one two e (w - 1) (omega (arith, one.wide)) (omega (arith, one.wide, wide)) in
-      let tall = same_wide (quarter_grid one) (quarter_grid two) (cc) in
-      record {
-        wide = wide;
-        tall = tall;
-        cells = λ i j li lj. let lv : i < v = omega (arith, wide) in
-            cells_north one two i j li lv (cells_east one two e i li lv) lj (omega (arith, tall));
-      }
+      grind (arith, same_wide (quarter_grid one) (quarter_grid two), cells_north one two, cells_east one two e)
 
   module _ {w h : ℕ} {cell : Cells} (grid : IsGrid mesh cut w h cell) where
     two_turns : (d e : ℕ) → d < mesh.count → mesh.twin (mesh.prev d) ≡ Some e → mesh.twin (mesh.prev e) ≡ Some d
@@ -190,11 +173,7 @@ module _ {mesh : HalfEdges} (laws : IsQuadManifold mesh) {cut : Cut} (full : IsC
     at_vertex i j li lj e =
         let d = cell (suc i) (suc j) in
         let f = mesh.prev (cell (suc i) j) in
-        let before : mesh.prev d ≡ mesh.next (cell i j) = cc (prev_three laws d) in
-        let above = prev_three laws f ∙ ap (λ x. mesh.next (mesh.next x)) (laws.next_prev _) in
-        two_turns d f (grid.low _ _ li lj) (cc (grid.east i j li (omega arith))) (cc (grid.north _ j li lj))
-        (south_open grid _ j li lj) (cc (grid.east_open i j li (omega arith)))
-        (west_open grid i j li (omega arith)) (cc (grid.north_open _ j li lj))
+        grind (arith, prev_three laws d, prev_three laws f, two_turns d f (grid.low _ _ li lj), grid.east i j li)
 
     -- A grid is not itself turned by a half: in its middle there would be a face, an edge or a vertex that is turned.
     not_half : ((x y : ℕ) → x < w → y < h → cell x y ≡ mesh.next (mesh.next (cell (w - suc x) (h - suc y)))) → ⊥
@@ -206,13 +185,11 @@ module _ {mesh : HalfEdges} (laws : IsQuadManifold mesh) {cut : Cut} (full : IsC
         let e = half x y lx ly in
         elim (cases_eq (w - suc x) x) [
           | inl p ↦ elim (cases_eq (h - suc y) y) [
-            | inl q ↦ (laws.corners_differ (cell x y) (grid.low x y lx ly)).1 (ap mesh.from (cc (e, p, q)))
-            | inr nq ↦ let q : h - suc y ≡ suc y = omega arith in
-                no_self laws _ (north_low grid x y lx ly) (search rules)
+            | inl q ↦ (laws.corners_differ _ (grid.low x y lx ly)).1 (ap mesh.from (cc (e, p, q)))
+            | inr nq ↦ grind arith
           ]
           | inr np ↦ let p : w - suc x ≡ suc x = omega arith in elim (cases_eq (h - suc y) y) [
-            | inl q ↦ no_self laws _ (laws.next_low _ (grid.low x y lx ly))
-                (cc (e, p, q, grid.east x y (omega arith) ly, prev_three laws (cell (suc x) y)))
+            | inl q ↦ grind (arith, prev_three laws (cell (suc x) y))
             | inr nq ↦ search (rules, at_vertex)
           ]
         ]
@@ -240,8 +217,7 @@ module _ {mesh : HalfEdges} (laws : IsQuadManifold mesh) {cut : Cut} (full : IsC
     no_fold zero i j a b li lj la lb e = let c = common grid grid li la lj lb e in (c.0, c.1)
     no_fold (suc zero) i j a b li lj la lb e = absurd (no_quarter i j a b li lj la lb e)
     no_fold (suc (suc zero)) i j a b li lj la lb e = absurd (no_half_turn i j a b li lj la lb e)
-    no_fold (suc (suc (suc zero))) i j a b li lj la lb e =
-        absurd (no_quarter a b i j la lb li lj (cc (laws.four_sides (cell a b))))
+    no_fold (suc (suc (suc zero))) i j a b li lj la lb e = grind (arith, no_quarter a b i j la lb li lj)
     no_fold (suc (suc (suc (suc k)))) i j a b li lj la lb e = no_fold k i j a b li lj la lb (e ∙ laws.four_sides _)
 
 pub no_fold_law : NoFoldLaw

@@ -23,10 +23,7 @@ same_rectangle p q wide lp lq one = λ i. record { w = one.wide i; h = one.tall 
     long = cc (lp, one.tall, one.wide, lq)
 
     each : (k : ℕ) → k < length p.cells → get_or p.cells k 0 ≡ get_or q.cells k 0
-    each k l =
-        let low : k < p.h * p.w = omega (arith, lp) in
-        let here = one.cells (k % p.w) (k / p.w) (omega arith) (place_row k p.w p.h wide low) in
-        cc (place_is k p.w wide, here, one.wide)
+    each k l = grind (arith, place_is k p.w wide)
 
     cells : p.cells ≡ q.cells
     cells = ext_get_or 0 p.cells q.cells long each
@@ -68,8 +65,7 @@ module _ {mesh : HalfEdges} (laws : IsQuadManifold mesh) {cut : Cut} (full : IsC
       let same = same_place ps t p q d lp lq (inside p i j k one) (inside q a b l two) in
       let s : IsSide mesh (patch_at ps p) a b l d = rw same two in
       let r = spun laws k l _ _ (cc) in
-      let f = no_fold laws full (t.patch p lp).grid r.0 i j a b one.i_low one.j_low s.i_low s.j_low r.1 in
-      (same, f.0, f.1)
+      grind (arith, no_fold laws full (t.patch p lp).grid r.0 i j a b one.i_low one.j_low s.i_low s.j_low r.1)
 
   tiles : (ps : List Rectangle) → IsPartition mesh cut face ps → AreTiles mesh cut face ps
   tiles ps a = record { patch = a.patch; sized = a.sized; ordered = a.ordered }

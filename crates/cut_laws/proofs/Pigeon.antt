@@ -17,10 +17,7 @@ pub record AreIncreasing (a : ℕ → ℕ) (n : ℕ) : Type 0 where
 
 pub increasing_less : {a : ℕ → ℕ} {n : ℕ} → AreIncreasing a n → (j k : ℕ) → j < k → k < n → a j < a k
 increasing_less r j zero l h = absurd (omega arith)
-increasing_less {a} r j (suc k) l h = elim (cases_eq j k) [
-  | inl e ↦ let here : a j ≡ a k = ap a e in omega arith
-  | inr ne ↦ let there = increasing_less r j k (omega arith) (omega arith) in omega arith
-]
+increasing_less {a} r j (suc k) l h = grind (arith, increasing_less r j k)
 
 pub increasing_place : (a : ℕ → ℕ) (n : ℕ) → AreIncreasing a n → (j k : ℕ) → j < n → k < n → a j ≡ a k → j ≡ k
 increasing_place a n r = apart_if n a (λ j k l lk e. let less = increasing_less r j k l lk in omega arith)
@@ -28,27 +25,14 @@ increasing_place a n r = apart_if n a (λ j k l lk e. let less = increasing_less
 -- No value of one at place k is below that of the other, which has it too, if they agree before.
 not_below : {a b : ℕ → ℕ} {n m : ℕ} → AreIncreasing a n → AreIncreasing b m → (k : ℕ) → k < n
     → ((i : ℕ) → i < k → a i ≡ b i) → (j : ℕ) → j < m → a k ≡ b j → b k ≤ a k
-not_below {a} {b} {n} ra rb k ln same j lj e = elim (cases_order j k) [
-  | inl s ↦ let here : b j ≡ b k = ap b s in omega arith
-  | inr (inl l) ↦ absurd (let place = increasing_place a n ra j k (omega arith) ln (same j l ∙ sym e) in omega arith)
-  | inr (inr l) ↦ let less = increasing_less rb k j l lj in omega arith
-]
+not_below {a} {b} {n} ra rb k ln same j lj e = grind (arith, increasing_place a n ra j k, increasing_less rb k j)
 
 module _ (a b : ℕ → ℕ) (n m : ℕ) (ra : AreIncreasing a n) (rb : AreIncreasing b m) (there : (k : ℕ) → k < n
     → (j : ℕ) × (j < m) × (a k ≡ b j)) (back : (k : ℕ) → k < m → (j : ℕ) × (j < n) × (b k ≡ a j)) where
   same_below : (k : ℕ) → k ≤ n → k ≤ m → (i : ℕ) → i < k → a i ≡ b i
   same_below zero ln lm i l = absurd (omega arith)
   same_below (suc k) ln lm i l =
-      let same = same_below k (omega arith) (omega arith) in
-      elim (cases_eq i k) [
-        | inl e ↦
-            let t = there k ln in
-            let u = back k lm in
-            let low = not_below ra rb k ln same t.0 t.1 t.2 in
-            let high = not_below rb ra k lm (λ i l. sym (same i l)) u.0 u.1 u.2 in
-            search rules
-        | inr ne ↦ same i (omega arith)
-      ]
+      grind (arith, same_below k, there k ln, back k lm, not_below ra rb k ln, not_below rb ra k lm)
 
   pub same_many : n ≡ m
   same_many = elim (cases_order n m) [
@@ -57,11 +41,7 @@ module _ (a b : ℕ → ℕ) (n m : ℕ) (ra : AreIncreasing a n) (rb : AreIncre
         let (j, low, e) = back n l in
         let place = increasing_place b m rb n j l (omega arith) (e ∙ same_below n (omega arith) (omega arith) j low) in
         absurd (omega arith)
-    | inr (inr l) ↦
-        let (j, low, e) = there m l in
-        let place = increasing_place a n ra m j l (omega arith)
-        (e ∙ sym (same_below m (omega arith) (omega arith) j low)) in
-        absurd (omega arith)
+    | inr (inr l) ↦ grind (arith, there m l, increasing_place a n ra m, same_below m)
   ]
 
   pub same_values : (k : ℕ) → k < n → a k ≡ b k
@@ -72,10 +52,7 @@ module _ (a b : ℕ → ℕ) (n m : ℕ) (ra : AreIncreasing a n) (rb : AreIncre
 -- Whether some number below n is sent to a value.
 pub sent_or_not : (f : ℕ → ℕ) (v n : ℕ) → ((k : ℕ) × (k < n) × (f k ≡ v)) ⊎ ((k : ℕ) → k < n → f k ≡ v → ⊥)
 sent_or_not f v zero = inr (λ k l e. omega arith)
-sent_or_not f v (suc n) = elim (cases_eq (f n) v) [
-  | inl e ↦ inl (n, omega arith, e)
-  | inr ne ↦ search (rules, sent_or_not f v n)
-]
+sent_or_not f v (suc n) = grind (arith, cases_eq (f n) v, sent_or_not f v n)
 
 -- Two places below a bound have one number.
 abbrev pub Meets : (f : ℕ → ℕ) (n : ℕ) → Type 0
@@ -111,12 +88,7 @@ place_in g (suc m) x = cond (g m == x) m (place_in g m x)
 
 place_there : (g : ℕ → ℕ) (m x j : ℕ) → j < m → g j ≡ x → (place_in g m x < m) × (g (place_in g m x) ≡ x)
 place_there g zero x j l e = absurd (omega arith)
-place_there g (suc m) x j l e = elim (cases_eq (g m) x) [
-  | inl s ↦ search rules
-  | inr ne ↦
-      let later : j ≡ m → ⊥ = λ s. ne (cc) in
-      search (rules, place_there g m x j (omega arith) e)
-]
+place_there g (suc m) x j l e = grind (arith, place_there g m x j)
 
 -- Values of which no two are equal, and which all stand among m others, are at most m.
 pub no_more : (n m : ℕ) (f g : ℕ → ℕ) → ((i j : ℕ) → i < n → j < n → f i ≡ f j → i ≡ j)

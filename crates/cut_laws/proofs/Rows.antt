@@ -20,13 +20,7 @@ pub record IsFirst (p : ℕ → Bool) (k : ℕ) : Type 0 where
 
 pub first_or_none : (p : ℕ → Bool) (n : ℕ) → ((k : ℕ) × (k < n) × IsFirst p k) ⊎ ((i : ℕ) → i < n → p i ≡ false)
 first_or_none p zero = inr (λ i l. absurd (omega arith))
-first_or_none p (suc n) = elim (first_or_none p n) [
-  | inl found ↦ inl (found.0, omega (arith, found.1), found.2)
-  | inr none ↦ elim (cases_Bool (p n)) [
-    | inl on ↦ inl (n, omega arith, record { on = on; before = none })
-    | inr off ↦ inr (λ i l. elim (cases_eq i n) [ inl e ↦ cc | inr ne ↦ none i (omega arith) ])
-  ]
-]
+first_or_none p (suc n) = grind (arith, first_or_none p n, cases_Bool (p n))
 
 -- A column is a row of the mesh turned by a quarter.
 pub norths_turned : (mesh : HalfEdges) (d j : ℕ) → mesh.next (norths mesh d j) ≡ easts mesh (mesh.next d) j
@@ -137,8 +131,7 @@ module _ {mesh : HalfEdges} (laws : IsQuadManifold mesh) {cut : Cut} (full : IsC
       → cut (mesh.prev (step_north mesh d)) ≡ true
   west_on d l on off =
       let meets : mesh.from (mesh.prev d) ≡ mesh.from (step_north mesh d) = search (rules, prev_three) in
-      true_from_ne_false (cut (mesh.prev (step_north mesh d)))
-      (λ c. false≢true (sym (no_cut _ (north_low d l off) (south_off d l off, c) _ (laws.prev_low d l) meets).0 ∙ on))
+      grind (arith, no_cut, north_low d l off, south_off d l off)
 
   -- The north edges on both sides of an east edge that is not cut are cut or not together.
   corner_east : (d : ℕ) → d < mesh.count → cut (mesh.next d) ≡ false → mesh.from (mesh.prev (step_east mesh d))
@@ -147,21 +140,11 @@ module _ {mesh : HalfEdges} (laws : IsQuadManifold mesh) {cut : Cut} (full : IsC
 
   pub north_off : (d : ℕ) → d < mesh.count → cut (mesh.next d) ≡ false → cut (mesh.next (mesh.next d)) ≡ false
       → cut (mesh.next (mesh.next (step_east mesh d))) ≡ false
-  north_off d l off up =
-      let free : IsOpen mesh cut (mesh.next (mesh.next d)) = (up, cc (laws.prev_next _)) in
-      let o = no_cut _ (laws.next_low _ (laws.next_low d l)) free _
-      (laws.prev_low _ (east_low d l off)) (corner_east d l off) in
-      cc (prev_twice laws _)
+  north_off d l off up = grind (arith, no_cut, east_low d l off, corner_east d l off, prev_twice laws)
 
   pub north_alike : (d : ℕ) → d < mesh.count → cut (mesh.next d) ≡ false
       → cut (mesh.next (mesh.next (step_east mesh d))) ≡ cut (mesh.next (mesh.next d))
-  north_alike d l off = elim (cases_Bool (cut (mesh.next (mesh.next (step_east mesh d))))) [
-    | inl on ↦ search (rules, north_off)
-    | inr free ↦
-        let o = no_cut _ (laws.prev_low _ (east_low d l off)) (west_off d l off, cc (prev_twice laws _)) _
-        (laws.next_low _ (laws.next_low d l)) (sym (corner_east d l off)) in
-        cc o.0
-  ]
+  north_alike d l off = grind (arith, no_cut, east_low d l off, west_off d l off, prev_twice laws, corner_east d l off)
 
   -- East and north of a cell without a cut edge there: the edge between the two cells above is not cut, and both ways
   -- lead to one cell.
@@ -183,9 +166,7 @@ module _ {mesh : HalfEdges} (laws : IsQuadManifold mesh) {cut : Cut} (full : IsC
       (sym (laws.twin_twin (mesh.prev c) x (laws.prev_low c lc) is.last) ∙ north_twin d l up) in
       let right : c ≡ mesh.next (step_north mesh d) = sym (laws.next_prev c) ∙ ap mesh.next last in
       let back = ap mesh.twin (sym right) ∙ laws.twin_twin (mesh.prev b) c (laws.prev_low b lb) is.third in
-      let at = turn_from laws b c lb is.third ∙ (turn_from laws a b la is.second ∙ turn_from laws x a lx is.first) in
-      let o : IsOpen mesh cut c = no_cut x lx free c lc at in
-      (ap cut (sym right) ∙ o.0, ap (λ y. mesh.next (or_zero y)) back ∙ (laws.next_prev b ∙ sym above))
+      search (rules, turn_from, no_cut)
 
   -- A row.
   pub row_low : (s w : ℕ) → IsRow mesh cut s w → (i : ℕ) → i < w → easts mesh s i < mesh.count
@@ -195,8 +176,7 @@ module _ {mesh : HalfEdges} (laws : IsQuadManifold mesh) {cut : Cut} (full : IsC
   -- Its south edges are cut if the first one is.
   pub row_south : (s w : ℕ) → IsRow mesh cut s w → cut s ≡ true → (i : ℕ) → i < w → cut (easts mesh s i) ≡ true
   row_south s w row on zero l = on
-  row_south s w row on (suc i) l = south_on _ (row_low s w row i (omega arith))
-      (row_south s w row on i (omega arith)) (row.inside i l)
+  row_south s w row on (suc i) l = grind (arith, row_low s w row i, row_south s w row on i)
 
   -- Its north edges are cut or not together.
   pub row_north : {s w : ℕ} → IsRow mesh cut s w → (i : ℕ) → i < w
@@ -219,10 +199,8 @@ module _ {mesh : HalfEdges} (laws : IsQuadManifold mesh) {cut : Cut} (full : IsC
   next_row s w row off = record {
     wide = row.wide;
     low = north_low s row.low off;
-    inside = λ i l. ap (λ x. cut (mesh.next x)) (row_above row off i (omega arith)) ∙ (square _
-        (row_low s w row i (omega arith)) (row.inside i l) (row_north row i (omega arith) ∙ off)).0;
-    ends = λ i e. ap (λ x. cut (mesh.next x)) (row_above row off i (omega arith)) ∙ east_on _
-        (row_low s w row i (omega arith)) (row.ends i e) (row_north row i (omega arith) ∙ off);
+    inside = λ i l. grind (arith, row_above row off i, square, row_low s w row i, row.inside i l, row_north row i);
+    ends = λ i e. grind (arith, row_above row off i, row_low s w row i, row.ends i e, row_north row i);
   }
 
   pub endless : (d : ℕ) → d < mesh.count → cut (mesh.prev d) ≡ true

@@ -37,26 +37,23 @@ module _ (faces : Faces) (may : MayLeave) (laws : IsQuadManifold (half_edges fac
   pub cut_after : {marks rest : List Bool} → IsCutOf faces marks → IsStep faces may marks rest → IsCutOf faces rest
   cut_after {marks} {rest} cut step = record {
     long = step.long ∙ cut.long;
-    full = join_law mesh (is_on marks) (is_on rest) step.near step.far step.size laws cut.full step.first.joinable
-        step.without;
+    full = join_law _ _ _ _ _ _ laws cut.full step.first.joinable step.without;
   }
 
   one_step : (marks a b : List Bool) → IsCutOf faces marks → IsStep faces may marks a → IsStep faces may marks b → a ≡ b
   one_step marks a b cut one two =
       let a_first = one.first in
       let b_first = two.first in
-      let one_least =
-      a_first.first two.near two.far two.size b_first.name b_first.joinable b_first.free b_first.named.on in
-      let two_least =
-      b_first.first one.near one.far one.size a_first.name a_first.joinable a_first.free a_first.named.on in
+      let one_least = a_first.first _ _ _ _ b_first.joinable b_first.free b_first.named.on in
+      let two_least = b_first.first _ _ _ _ a_first.joinable a_first.free a_first.named.on in
       let names : one.first.name ≡ two.first.name = omega (arith, one_least, two_least) in
       let arcs = one_arc laws cut.full
-      a_first.name a_first.joinable.glued b_first.joinable.glued a_first.named.on (rw names b_first.named.on) in
+      _ a_first.joinable.glued b_first.joinable.glued a_first.named.on (rw names b_first.named.on) in
       let back : AreOneArc two.near two.far one.near one.far =
       elim arcs.0 [ inl p ↦ inl (sym p.0, sym p.1) | inr p ↦ inr (sym p.1, sym p.0) ] in
-      ext_get_or false a b (one.long ∙ sym two.long) (λ d h.
+      ext_get_or _ a b (one.long ∙ sym two.long) (λ d h.
       let l : d < darts faces = omega (arith, h, one.long, cut.long) in
-      elim (on_or_not mesh one.near one.far one.size d) [
+      elim (on_or_not mesh _ _ _ d) [
         | inl o ↦ one.without.gone d o ∙ sym (two.without.gone d (search (rules, same_darts)))
         | inr none ↦ one.without.kept d l none ∙ sym (two.without.kept d l
             (λ o. none (same_darts mesh two.near two.far one.near one.far d back (sym arcs.1) o)))
@@ -103,12 +100,11 @@ module _ (faces : Faces) (may : MayLeave) (laws : IsQuadManifold (half_edges fac
 
 pub one_merged_law : OneMergedLaw
 one_merged_law faces may marks rest other manifold full one two =
-    let laws = manifold_law faces manifold in
-    let cut : IsCutOf faces marks =
-    record { long = full.long; full = ((full_cut_law faces marks manifold).0 full).1 } in
-    let after = cut_reached faces may laws rest one.steps cut one.reached in (
+    let laws = manifold_law _ manifold in
+    let cut : IsCutOf faces marks = record { long = full.long; full = ((full_cut_law _ _ manifold).0 full).1 } in
+    let after = cut_reached _ _ laws _ _ cut one.reached in (
       (search (rules, same_reached, no_more)),
-      (full_cut_law faces rest manifold).1 (after.long, after.full),
+      (full_cut_law _ _ manifold).1 (after.long, after.full),
     )
 
 -- What is merged beside marked lines keeps them.
@@ -150,8 +146,7 @@ module _ (faces : Faces) (marks cut : List Bool) (keeps : keeps_lines faces mark
   turned_from d l y = implies _ _ (and_parts (not (is_on marks d) || is_on cut d) _ (at_dart d l)).1 y
 
 pub without_long : (faces : Faces) (cut : List Bool) (s t n : ℕ) → length (without faces cut s t n) ≡ darts faces
-without_long faces cut s t n = length-map (all_darts faces)
-    (λ x. is_on cut x && not (is_on_arc (half_edges faces) s t n x)) ∙ length-range_with_len 0 (darts faces)
+without_long faces cut s t n = length-map _ (λ x. is_on _ x && not _) ∙ length-range_with_len 0 (darts _)
 
 -- What is left of a cut without an arc.
 pub left_at : (faces : Faces) (cut : List Bool) (s t n d : ℕ) → d < darts faces
@@ -212,17 +207,16 @@ turn_from faces cut v (d, l, at, on, before) = any_at _ d _ (in_fan _ v d l at) 
 
 -- An arc that may not leave may not leave a part of the cut.
 pub held_law : HeldLaw
-held_law faces marks cut rest s t n more free = keeps_from faces marks (without faces cut s t n)
-    (search (rules, grows, kept_from)) (λ d l y. turn_from faces (without faces cut s t n) (from_of faces d)
-    (turn_grows (from_of faces d) (turn_there faces (without faces rest s t n) (from_of faces d)
-    (search (rules, turned_from)))))
+held_law faces marks cut rest s t n more free = keeps_from _ marks _ (search (rules, grows, kept_from))
+    (λ d l y. turn_from faces (without faces cut s t n) (from_of faces d) (turn_grows (from_of faces d)
+    (turn_there faces (without faces rest s t n) (from_of faces d) (search (rules, turned_from)))))
   where
     grows : (d : ℕ) → d < darts faces → is_on (without faces rest s t n) d ≡ true
         → is_on (without faces cut s t n) d ≡ true
     grows d l on = search (rules, get_or-map-range_with_len)
 
     turn_grows : (v : ℕ) → Turn faces (without faces rest s t n) v → Turn faces (without faces cut s t n) v
-    turn_grows v (e, l, at, on, before) = (e, l, at, grows e l on, grows (prev_of e) (prev_of_low faces e l) before)
+    turn_grows v (e, l, at, on, before) = (e, l, at, grows e l on, grows _ (prev_of_low faces e l) before)
 
 -- From its other side an arc may leave as well.
 pub turned_may : (faces : Faces) (marks cut : List Bool) (s t n : ℕ) → may_beside faces marks cut s t n ≡ true
@@ -251,8 +245,7 @@ module _ (faces : Faces) where
       let n = vertex_count faces in
       ext_get_or false (replicate n false) (map (is_break faces no_marks) (all_vertices faces))
       (length-replicate n false ∙ sym (length-map (all_vertices faces) (is_break faces no_marks)
-      ∙ length-range_with_len 0 n)) (λ v l. none_on n v ∙ sym (get_or-map-range_with_len (is_break faces no_marks) 0
-      n v v false (omega (arith, l, length-replicate n false)) (omega arith) ∙ no_break faces v))
+      ∙ length-range_with_len 0 n)) (search (rules, none_on, get_or-map-range_with_len, length-replicate, no_break))
 
   -- What is merged beside no marks is merged, and the other way round.
   pub none_merged : (cut rest : List Bool)
@@ -261,5 +254,4 @@ module _ (faces : Faces) where
 
   pub merged_none : (cut rest : List Bool) → IsMergedCut faces cut rest
       → IsMergedBy faces (may_beside faces (replicate (darts faces) false)) cut rest
-  merged_none = merged_alike faces all_may (may_beside faces no_marks)
-      (λ cut s t n. sym (search (rules, keeps_from, off, no_break)))
+  merged_none = merged_alike _ _ _ (search (rules, keeps_from, off, no_break))

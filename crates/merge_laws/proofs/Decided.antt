@@ -48,8 +48,7 @@ module _ {mesh : HalfEdges} (laws : IsQuadManifold mesh) {cut : Cut} (full : IsC
   -- The other side is told by the first.
   pub one_far : {s t u n m : ℕ} → AreGlued mesh cut s t n → AreGlued mesh cut s u m → (t ≡ u) × (n ≡ m)
   one_far {s} {t} {u} {n} {m} one two =
-      let same = one_size laws full one.near two.near in
-      (cc (one.across (n - 1) 0 (omega arith), two.across (m - 1) 0 (omega arith)), same)
+      grind (arith, one_size laws full one.near two.near, one.across (n - 1) 0, two.across (m - 1) 0)
 
   one_near : {s t n r u m : ℕ} (k j : ℕ) → AreGlued mesh cut s t n → AreGlued mesh cut r u m → k < n → j < m
       → easts mesh s k ≡ easts mesh r j → (s ≡ r) × (t ≡ u) × (n ≡ m)
@@ -61,15 +60,11 @@ module _ {mesh : HalfEdges} (laws : IsQuadManifold mesh) {cut : Cut} (full : IsC
   -- Arcs with a dart in common are one.
   pub one_arc : {s t n r u m : ℕ} (d : ℕ) → AreGlued mesh cut s t n → AreGlued mesh cut r u m → IsOnArc mesh s t n d
       → IsOnArc mesh r u m d → AreOneArc s t r u × (n ≡ m)
-  one_arc d one two (k, lk, inl e) (j, lj, inl f) =
-      let p = one_near k j one two lk lj (sym e ∙ f) in (inl (p.0, p.1), p.2)
-  one_arc d one two (k, lk, inl e) (j, lj, inr f) =
-      let p = one_near k j one (turned_glued laws full two) lk lj (sym e ∙ f) in (inr (p.0, p.1), p.2)
-  one_arc d one two (k, lk, inr e) (j, lj, inl f) =
-      let p = one_near k j (turned_glued laws full one) two lk lj (sym e ∙ f) in (inr (p.1, p.0), p.2)
+  one_arc d one two (k, lk, inl e) (j, lj, inl f) = grind (arith, one_near k j one two lk lj)
+  one_arc d one two (k, lk, inl e) (j, lj, inr f) = grind (arith, one_near k j one (turned_glued laws full two) lk lj)
+  one_arc d one two (k, lk, inr e) (j, lj, inl f) = grind (arith, one_near k j (turned_glued laws full one) two lk lj)
   one_arc d one two (k, lk, inr e) (j, lj, inr f) =
-      let p = one_near k j (turned_glued laws full one) (turned_glued laws full two) lk lj (sym e ∙ f) in
-      (inl (p.1, p.0), p.2)
+      grind (arith, one_near k j (turned_glued laws full one) (turned_glued laws full two) lk lj)
 
   module _ {rest : Cut} {s t n : ℕ} (arc : IsJoinable mesh cut s t n) (without : IsWithout mesh cut rest s t n) where
     full_rest : IsCut mesh rest
@@ -80,10 +75,8 @@ module _ {mesh : HalfEdges} (laws : IsQuadManifold mesh) {cut : Cut} (full : IsC
         ⊎ (d ≡ mesh.prev t)
     over_end d l on o =
         let was : cut (mesh.prev (mesh.next d)) ≡ true = ap cut (laws.prev_next d) ∙ less laws without d l on in
-        let start : (c k : ℕ) → IsWholeSide mesh cut c n → k < n → mesh.next d ≡ easts mesh c k → d ≡ mesh.prev c =
-        λ c k side lk e.
-        let first = first_place laws full side k lk (ap (λ x. cut (mesh.prev x)) (sym e) ∙ was) in
-        sym (laws.prev_next d) ∙ ap mesh.prev (e ∙ ap (easts mesh c) first) in
+        let start : (c k : ℕ) → IsWholeSide mesh cut c n → k < n → mesh.next d ≡ easts mesh c k → d ≡ mesh.prev c
+        = λ c k side lk e. grind (arith, first_place laws full side k lk, laws.prev_next d) in
         elim o.2 [ inl e ↦ inl (start s o.0 arc.glued.near o.1 e) | inr e ↦ inr (start t o.0 arc.glued.far o.1 e) ]
 
     -- A whole side was one before, or it goes on over an end of the arc.
@@ -178,11 +171,7 @@ module _ {mesh : HalfEdges} (laws : IsQuadManifold mesh) {cut : Cut} (full : IsC
       → ((k j : ℕ) → k < m → k + suc j ≡ n → mesh.twin (easts mesh s k) ≡ Some (easts mesh t j)) ⊎ (Across s t n → ⊥)
   across_or_not s t n zero le = inl (λ k j l e. absurd (omega arith))
   across_or_not s t n (suc m) le =
-      let rest = across_or_not s t n m (omega arith) in
-      elim (found_or_not (mesh.twin (easts mesh s m)) (easts mesh t (n - suc m))) [
-        | inr never ↦ inr (λ all. never (all m (n - suc m) (omega arith)))
-        | inl on ↦ search rules
-      ]
+      grind (arith, across_or_not s t n m, found_or_not (mesh.twin (easts mesh s m)) (easts mesh t (n - suc m)))
 
   -- Whether an arc that joins two patches begins at s.
   begins_at : {s : ℕ} (n : ℕ) → IsWholeSide mesh cut s n → OrNot (From s n)
@@ -215,16 +204,14 @@ module _ {mesh : HalfEdges} (laws : IsQuadManifold mesh) {cut : Cut} (full : IsC
           let low = side_low laws full side (n - 1) (omega arith) in
           elim (cases_Bool (cut (mesh.prev t))) [
             | inl on ↦ by_far t is (laws.twin_low x t low is, search (rules, side_on), on)
-            | inr off ↦ inr (λ f.
-                let same = same_Some f.0 t (sym (far_is f) ∙ is) in
-                true≢false (sym (rw same at f.1.glued.far.corner).2 ∙ off))
+            | inr off ↦ inr (λ f. grind (arith, far_is f))
           ]
 
   -- Whether one that may leave goes over d.
   over_or_not : (d : ℕ) → d < mesh.count → OrNot (Over d)
-  over_or_not d low = elim (cases_Bool (cut d)) [
+  over_or_not d low = elim (cases_Bool _) [
     | inr off ↦ inr (λ o. true≢false (sym (on_cut laws full o.3.glued d o.5) ∙ off))
-    | inl on ↦ let st = stands laws full d low on in by_side st.0 st.1 st.2 st.3
+    | inl on ↦ let st = stands laws full d low on in by_side _ _ _ st.3
   ]
     where
       by_side : (c n k : ℕ) → StandsOn mesh cut c n k d → OrNot (Over d)
@@ -232,11 +219,11 @@ module _ {mesh : HalfEdges} (laws : IsQuadManifold mesh) {cut : Cut} (full : IsC
         | inr never ↦ inr (λ o. let r = from_c o in never (r.0, r.1))
         | inl f ↦ elim (cases_Bool (may c f.0 n)) [
           | inl free ↦ search rules
-          | inr held ↦ elim (cases_Bool (may f.0 c n)) [
+          | inr held ↦ elim (cases_Bool _) [
             | inl free ↦ inl (f.0, c, n, turned_arc laws full f.1, free, (k, stand.low, inr (sym stand.at)))
             | inr back ↦ inr (λ o.
                 let r = from_c o in
-                let far : r.0 ≡ f.0 = same_Some r.0 f.0 (sym (r.1.glued.across (n - 1) 0 (omega (arith, stand.low)))
+                let far : r.0 ≡ f.0 = same_Some _ _ (sym (r.1.glued.across (n - 1) 0 (omega (arith, stand.low)))
                 ∙ f.1.glued.across (n - 1) 0 (omega (arith, stand.low))) in
                 search rules)
           ]
@@ -253,8 +240,7 @@ module _ {mesh : HalfEdges} (laws : IsQuadManifold mesh) {cut : Cut} (full : IsC
           from_c (s, t, m, arc, free, (j, l, inl e)) = let same = begins arc j l e in search rules
           from_c (s, t, m, arc, free, (j, l, inr e)) =
               let turned = turned_arc laws full arc in
-              let same = begins turned j l e in
-              search rules
+              grind (arith, begins turned j l e)
 
   -- The first one.
   abbrev Least : ℕ → Type 0

@@ -35,8 +35,7 @@ module _ (faces : Faces) (may : MayLeave) (laws : IsQuadManifold (half_edges fac
         where
           least : (r u m x : ℕ) → IsJoinable mesh (is_on marks) r u m → may marks r u m ≡ true → IsOnArc mesh r u m x
               → d ≤ x
-          least r u m x other may_too o = elim (cases_lt x d)
-              [ inl l ↦ absurd (before x l (r, u, m, other, may_too, o)) | inr le ↦ omega arith ]
+          least r u m x other may_too o = grind (arith, before x)
 
           step : IsStep faces may marks (without faces marks s t n)
           step = record {

@@ -173,8 +173,7 @@ module _ {mesh : HalfEdges} (laws : IsQuadManifold mesh) {cut rest : Cut} (full 
       let down : passing (λ p. not (p == far.0)) (length ps) ≤ passing (λ q. true) (length qs) = passing_le _
       (λ q. true) _ _ (λ p l on. ((new_of p l).0, (new_of p l).1, refl)) (search (rules, new_once)) in
       let up : passing (λ q. true) (length qs) ≤ passing (λ p. not (p == far.0)) (length ps) = passing_le (λ q. true) _
-      _ _ (λ q l on. let p = old_of q l in (p.0, p.1, ap not (ne_eqb p.0 far.0 p.2)))
-      (λ q r lq on lr also same. old_once q r lq lr same) in
+      _ _ (λ q l on. grind (arith, old_of q l)) (λ q r lq on lr also same. old_once q r lq lr same) in
       omega (arith, one_less _ _ far.1, passing_all (length qs))
 
 pub fewer_law : FewerLaw

@@ -15,10 +15,7 @@ use Rattle.{motion_laws.proofs.Bits.rotated, cut_laws.specs.Grown.grown}
 
 -- Whether a dart lies on an arc.
 pub on_or_not : (mesh : HalfEdges) (s t n d : ℕ) → IsOnArc mesh s t n d ⊎ (IsOnArc mesh s t n d → ⊥)
-on_or_not mesh s t n d = elim (sent_or_not (easts mesh s) d n) [
-  | inl a ↦ inl (a.0, a.1, inl (sym a.2))
-  | inr a ↦ elim (sent_or_not (easts mesh t) d n) [ inl b ↦ inl (b.0, b.1, inr (sym b.2)) | inr b ↦ search rules ]
-]
+on_or_not mesh s t n d = grind (arith, sent_or_not (easts mesh s) d n, sent_or_not (easts mesh t) d n)
 
 pub other_way : (mesh : HalfEdges) (s t n d : ℕ) → IsOnArc mesh s t n d → IsOnArc mesh t s n d
 other_way mesh s t n d o = (o.0, o.1, elim o.2 [ inl e ↦ inr e | inr e ↦ inl e ])
@@ -37,12 +34,7 @@ cross_from {mesh} laws x d lx ld at cross = by_cross cross.3
         let second = rotated mesh laws x a b c lx is in
         let third = rotated mesh laws a b c x (low_a laws x a b c lx is) second in
         let fourth = rotated mesh laws b c x a (low_b laws x a b c lx is) third in
-        elim (one_of_four laws x a b c lx is d (record { low = ld; at = at })) [
-          | inl e ↦ rw e (a, b, c, is)
-          | inr (inl e) ↦ rw e (b, c, x, second)
-          | inr (inr (inl e)) ↦ rw e (c, x, a, third)
-          | inr (inr (inr e)) ↦ rw e (x, a, b, fourth)
-        ]
+        grind (arith, one_of_four laws x a b c lx is d)
 
 module _ {mesh : HalfEdges} (laws : IsQuadManifold mesh) {cut : Cut} (full : IsCut mesh cut) where
   -- A joinable arc seen from its other side.
@@ -143,11 +135,9 @@ module _ {mesh : HalfEdges} (laws : IsQuadManifold mesh) {cut : Cut} (full : IsC
         easts mesh t (suc i),
         mesh.next b,
         record {
-          first = laws.twin_twin (mesh.next a) (mesh.prev (easts mesh s (suc k)))
-              (laws.next_low a (near_low k (omega arith))) (side_link laws full arc.glued.near k l);
+          first = grind (arith, near_low k);
           second = ap mesh.twin (laws.prev_next a) ∙ arc.glued.across k (suc i) (omega arith);
-          third = laws.twin_twin (mesh.next b) (mesh.prev (easts mesh t (suc i))) (laws.next_low b lb)
-              (side_link laws full arc.glued.far i (omega arith));
+          third = grind arith;
           last = ap mesh.twin (laws.prev_next b) ∙ (turned_glued laws full arc.glued).across i (suc k) (omega arith);
           apart = λ same. foreign _ (0, record { a = suc k; b = 0; a_low = l; b_low = grid.1.tall; is = refl })
               (0, record { a = suc i; b = 0; a_low = omega arith; b_low = other.1.tall; is = same });
@@ -326,12 +316,9 @@ module _ {mesh : HalfEdges} (laws : IsQuadManifold mesh) {cut : Cut} (full : IsC
   side_of : (p x : ℕ) (i : IsIn mesh ps p x) → IsSide mesh (patch_at ps p) i.1.a i.1.b i.0 x
   side_of p x i = record { i_low = i.1.a_low; j_low = i.1.b_low; is = i.1.is }
 
-  grid_at : (p : ℕ) → p < length ps → IsGrid mesh cut (patch_at ps p).w (patch_at ps p).h (cell_of (patch_at ps p))
-  grid_at p l = (parts.patch p l).grid
-
   -- Linked darts lie in one patch.
   pub one_place_of : (p q x y : ℕ) → p < length ps → q < length ps → IsIn mesh ps p x → IsIn mesh ps q y
       → AreLinked mesh cut x y → p ≡ q
   one_place_of p q x y lp lq i j a =
-      let here = closed laws full (grid_at p lp) x y _ a.1 i in
+      let here = closed laws full ((parts.patch p lp).grid) x y _ a.1 i in
       (parts.once y p here.1.a here.1.b here.0 q j.1.a j.1.b j.0 lp lq (side_of p y here) (side_of q y j)).0

@@ -74,9 +74,7 @@ module _ {mesh : HalfEdges} (laws : IsQuadManifold mesh) {cut : Cut} (full : IsC
     where
       lies : (o : ℕ) → o < length_of slot
           → LiesAt mesh (path_at layout.arcs (arc_of slot)).darts (use_of gluing slot).forward o (dart slot o)
-      lies o l =
-          let none : reach gluing (long_at layout.arcs) slot.patch slot.side slot.at + o ≡ o = search rules in
-          rw none at (lay.used slot o is l)
+      lies o l = grind (arith, lay.used slot o is l)
 
   module _ {one other : Slot} (are : IsJoinableAt gluing one other) where
     near : IsBorder mesh cut (patch one) one.side
@@ -104,10 +102,9 @@ module _ {mesh : HalfEdges} (laws : IsQuadManifold mesh) {cut : Cut} (full : IsC
             ≡ Some (easts mesh (dart other 0) j)
         across k j sum =
             let lj : j < side_size (patch other) other.side = omega (arith, far_long) in
-            let low = in_low laws full (grid_of are.across.0) (dart other j) (far.inside j lj) in
-            ap mesh.twin (near.along k (omega (arith, near_long))) ∙ (paired (use_of gluing one).forward k j
-            (dart one k) (dart other j) low sum (lies one are.slot are.alone k (omega arith)) (search (rules, lies))
-            ∙ ap Some (sym (far.along j lj)))
+            let low = in_low laws full (grid_of are.across.0) _ (far.inside j lj) in
+            ap mesh.twin (near.along k (omega (arith, near_long))) ∙ (paired _ k j (dart one k) (dart other j) low sum
+            (lies one are.slot are.alone k (omega arith)) (search (rules, lies)) ∙ ap Some (sym (far.along j lj)))
 
         apart : AreInOne mesh cut (dart one 0) (dart other 0) → ⊥
         apart a = are.apart (one_place_of laws full lay.patches one.patch other.patch (dart one 0) (dart other 0)

@@ -73,8 +73,7 @@ module _ {mesh : HalfEdges} (laws : IsQuadManifold mesh) {cut : Cut} (full : IsC
   one_place {s} {n} {r} {m} (suc k) (suc j) one two lk lj e =
       let lx = laws.next_low _ (side_low one k (omega arith)) in
       let ly = laws.next_low _ (side_low two j (omega arith)) in
-      let same = twin_same laws _ _ _ lx ly (side_link one k lk) (cc (side_link two j lj)) in
-      search (rules, one_place k j one two (omega arith) (omega arith) (next_same laws _ _ same))
+      search (rules, twin_same laws, side_link one k lk, side_link two j lj, one_place k j one two)
 
   shorter : {s : ℕ} (n : ℕ) {m : ℕ} → IsWholeSide mesh cut s n → IsWholeSide mesh cut s m → n < m → ⊥
   shorter zero one two l = absurd (omega arith)
@@ -94,8 +93,7 @@ module _ {mesh : HalfEdges} (laws : IsQuadManifold mesh) {cut : Cut} (full : IsC
   module _ {w h : ℕ} {cell : Cells} (grid : IsGrid mesh cut w h cell) where
     pub along_south : (i : ℕ) → i < w → easts mesh (cell 0 0) i ≡ cell i 0
     along_south zero l = refl
-    along_south (suc i) l = ap (step_east mesh) (along_south i (omega arith))
-        ∙ east_is laws (cell i 0) (cell (suc i) 0) (grid.east i 0 l grid.tall)
+    along_south (suc i) l = grind (arith, along_south i, grid.east i 0 l grid.tall)
 
     pub south_side : IsWholeSide mesh cut (cell 0 0) w
     south_side = record {
@@ -109,12 +107,7 @@ module _ {mesh : HalfEdges} (laws : IsQuadManifold mesh) {cut : Cut} (full : IsC
     quarter_first : {c : ℕ} → IsFirstDart mesh h w (quarter mesh w cell) c → IsFirstDart mesh w h cell c
     quarter_first first =
         let z : w - suc (w - 1) ≡ 0 = omega arith in
-        elim first [
-          | inl e ↦ inr (inl e)
-          | inr (inl e) ↦ inr (inr (inl e))
-          | inr (inr (inl e)) ↦ inr (inr (inr (cc (e, z))))
-          | inr (inr (inr e)) ↦ inl (cc (e, z, laws.four_sides (cell 0 0)))
-        ]
+        grind (arith, laws.four_sides (cell 0 0))
 
   module _ {w h : ℕ} {cell : Cells} (grid : IsGrid mesh cut w h cell) where
     pub along_east : (j : ℕ) → j < h → easts mesh (mesh.next (cell (w - 1) 0)) j ≡ mesh.next (cell (w - 1) j)
@@ -128,9 +121,7 @@ module _ {mesh : HalfEdges} (laws : IsQuadManifold mesh) {cut : Cut} (full : IsC
 
     pub along_north : (k i : ℕ) → k + suc i ≡ w → easts mesh (mesh.next (mesh.next (cell (w - 1) (h - 1)))) k
         ≡ mesh.next (mesh.next (cell i (h - 1)))
-    along_north k i e =
-        let same : w - suc k ≡ i = omega arith in
-        along_south half_grid k (omega arith) ∙ ap (λ x. mesh.next (mesh.next (cell x (h - 1)))) same
+    along_north k i e = grind (arith, along_south half_grid k)
 
     pub north_side : IsWholeSide mesh cut (mesh.next (mesh.next (cell (w - 1) (h - 1)))) w
     north_side = south_side half_grid
@@ -146,14 +137,12 @@ module _ {mesh : HalfEdges} (laws : IsQuadManifold mesh) {cut : Cut} (full : IsC
         ∙ along_south (quarter_grid laws full half_grid) k (omega arith) ∙ cc (same, zero_is)
 
     pub west_side : IsWholeSide mesh cut (mesh.next (mesh.next (mesh.next (cell 0 (h - 1))))) h
-    west_side = subst (λ x. IsWholeSide mesh cut (mesh.next (mesh.next (mesh.next (cell x (h - 1))))) h) zero_is
-        (south_side (quarter_grid laws full half_grid))
+    west_side = grind (arith, south_side (quarter_grid laws full half_grid))
 
   -- A cut dart of a grid stands on one of them.
   stands_at : (q : ℕ) {w h : ℕ} {cell : Cells} → IsGrid mesh cut w h cell → (i j : ℕ) {x : ℕ} → i < w → j < h
       → x ≡ spin mesh q (cell i j) → cut x ≡ true → SideOver mesh cut w h cell x
-  stands_at zero {w} {h} {cell} grid i zero li lj e on =
-      (cell 0 0, w, i, record { side = south_side grid; low = li; at = along_south grid i li ∙ sym e }, inl refl)
+  stands_at zero {w} {h} {cell} grid i zero li lj e on = grind (arith, south_side grid, along_south grid i li)
   stands_at zero grid i (suc j) li lj e on = absurd (cc (south_open laws full grid i j li lj))
   stands_at (suc q) {w} {h} {cell} grid i j li lj e on =
       let same : w - suc (w - suc i) ≡ i = omega arith in
@@ -172,8 +161,7 @@ module _ {mesh : HalfEdges} (laws : IsQuadManifold mesh) {cut : Cut} (full : IsC
     pub corner_in : (x : ℕ) → In mesh w h cell x → IsCorner mesh cut x → IsFirstDart mesh w h cell x
     corner_in x i corner =
         let o = stands_in x i corner.1 in
-        let start : o.2 ≡ 0 = first_place o.3.side o.2 o.3.low (ap (λ y. cut (mesh.prev y)) o.3.at ∙ corner.2) in
-        search rules
+        grind (arith, first_place o.3.side o.2 o.3.low)
 
   -- Each cut dart stands on a whole side.
   pub stands : (x : ℕ) → x < mesh.count → cut x ≡ true → (c : ℕ) × (n : ℕ) × (k : ℕ) × StandsOn mesh cut c n k x

@@ -92,30 +92,25 @@ module _ (faces : Faces) (m : IsManifold faces) (marks : List Bool) (marked : Ar
 
       stays : IsBreak r → IsEndFree faces marks cut r u → TurnsAt rest r
       stays y free =
-          let (a, b, c, is) = break_cross faces m marks marked r lr y in
+          let (a, b, c, is) = break_cross _ m _ marked r lr y in
           let la = low_a laws r a b c lr is in
           let lb = low_b laws r a b c lr is in
           let opposite = free y a b is.first is.second in
           let at = at_b laws r a b c lr is in
-          let clear : IsOnArc (half_edges faces) s t n b → ⊥ = λ o.
-          elim (other b (first_at b o (ap (is_break faces marks) at ∙ y) (r, lr, sym at, corner.1, corner.2))) [
-            | inl e ↦ is.apart (sym e)
-            | inr e ↦ opposite.1 e
-          ] in
+          let clear : IsOnArc (half_edges faces) s t n b → ⊥ = λ o. grind
+          (arith, other b (first_at b o (ap (is_break faces marks) at ∙ y) (r, lr, sym at, corner.1, corner.2))) in
           let on_b = still laws left b lb clear opposite.0 in
           let before : is_on rest (prev_of a) ≡ true =
-          sym (full_left.alike (prev_of a) b (laws.prev_low a la) is.second) ∙ on_b in
-          let on_a : is_on rest a ≡ true = elim (full_left.gaps (prev_of a) (laws.prev_low a la) before) [
-            | inl y ↦ cc (y, laws.next_prev a)
-            | inr w ↦ absurd (cc (
-              left.gone r on,
-              w.1,
-              w.2,
-              laws.next_prev a,
-              laws.next_prev r,
-              laws.twin_twin (prev_of r) a (laws.prev_low r lr) is.first,
-            ))
-          ] in
+          grind (arith, full_left.alike (prev_of a) b (laws.prev_low a la) is.second) in
+          let on_a : is_on rest a ≡ true = search (
+            rules,
+            full_left.gaps (prev_of a) (laws.prev_low a la) before,
+            laws.next_prev a,
+            left.gone r on,
+            laws.next_prev r,
+            laws.twin_twin (prev_of r) a (laws.prev_low r lr)
+                is.first,
+          ) in
           (a, la, at_a laws r a b c lr is, on_a, before)
 
       -- And where a corner stays, the opposite edge does.

@@ -1,6 +1,6 @@
 -- Lists of darts: what stands among them, filters, and lists without repeats.
 use Rattle.std.proofs.Common.{rules, ◌≡◌, ◌⊎◌, ℕ, zero, suc, Bool, true, false, cond, eqb, ◌&&◌, ◌+◌, ◌<◌, ◌≤◌, List}
-use Rattle.std.proofs.Common.{[], ◌∷◌, Option, Some, None, sym, ap, ◌∙◌, refl, inl, inr}
+use Rattle.std.proofs.Common.{arith, [], ◌∷◌, Option, Some, None, sym, ap, ◌∙◌, refl, inl, inr}
 use Rattle.std.proofs.lemmas.Bool.{or_left, or_right, or_cases, eq-eqb, eqb-true, and_parts, false≢true}
 use Rattle.std.specs.List.{filter, list_any, list_all, range_with_len}
 use Rattle.list_laws.proofs.Filters.{any_in_range, range_any}
@@ -33,22 +33,16 @@ found_where (Some e) ds f = (e, refl, f)
 -- A test that some dart of the list passes.
 pub any_at : (p : ℕ → Bool) (d : ℕ) (ds : List ℕ) → is_among d ds ≡ true → p d ≡ true → list_any p ds ≡ true
 any_at p d [] m t = absurd (false≢true m)
-any_at p d (e ∷ ds) m t = elim (among_cases d e ds m)
-    [ inl s ↦ or_left _ _ (ap p (sym s) ∙ t) | inr r ↦ or_right _ _ (any_at p d ds r t) ]
+any_at p d (e ∷ ds) m t = grind (arith, any_at p d ds)
 
 pub any_where : (p : ℕ → Bool) (ds : List ℕ) → list_any p ds ≡ true → (d : ℕ) × (is_among d ds ≡ true) × (p d ≡ true)
 any_where p [] t = absurd (false≢true t)
-any_where p (e ∷ ds) t = elim (or_cases _ _ t) [
-  | inl a ↦ (e, among_here e e ds refl, a)
-  | inr b ↦ let r = any_where p ds b in (r.0, among_later r.0 e ds r.1, r.2)
-]
+any_where p (e ∷ ds) t = grind (arith, any_where p ds)
 
 -- A test that all of a list pass, or that one does not.
 pub all_at : (p : ℕ → Bool) (d : ℕ) (ds : List ℕ) → list_all p ds ≡ true → is_among d ds ≡ true → p d ≡ true
 all_at p d [] all m = absurd (false≢true m)
-all_at p d (e ∷ ds) all m =
-    let b = and_parts (p e) (list_all p ds) all in
-    elim (or_cases _ _ m) [ inl s ↦ ap p (eqb-true d e s) ∙ b.0 | inr k ↦ all_at p d ds b.1 k ]
+all_at p d (e ∷ ds) all m = grind (arith, all_at p d ds)
 
 pub not_all : (p : ℕ → Bool) (ds : List ℕ) → list_all p ds ≡ false → (d : ℕ) × (is_among d ds ≡ true) × (p d ≡ false)
 not_all p [] off = absurd (false≢true (sym off))

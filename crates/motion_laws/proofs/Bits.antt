@@ -1,6 +1,6 @@
 -- Who goes on at a vertex with four faces, told by two bits: the rider by d, where neither the rider to whom it gives
 -- way arrives nor the one from the opposite side.
-use Rattle.std.proofs.Common.{rules, ◌≡◌, ◌≢◌, ◌⊎◌, ℕ, ◌<◌, true, false, not, ◌&&◌, List, [], ◌∷◌, sym, ap}
+use Rattle.std.proofs.Common.{arith, rules, ◌≡◌, ◌≢◌, ◌⊎◌, ℕ, ◌<◌, true, false, not, ◌&&◌, List, [], ◌∷◌, sym, ap}
 use Rattle.std.proofs.Common.{◌∙◌, refl, inl, inr, Bool, Some, None}
 use Rattle.std.proofs.{lemmas.Bool.cases_Bool, lemmas.Bool.false≢true, lemmas.Bool.ne_eqb}
 use Rattle.def_mesh.specs.HalfEdges.{HalfEdges, IsQuadManifold}
@@ -97,14 +97,7 @@ module _ (g : Terrain) (laws : IsQuadManifold g.half) where
   pub of_round : (d a b c : ℕ) → d < g.half.count → IsCross g.half (g.half.next d) a b c → (e : ℕ) → e < g.half.count
       → end_of g e ≡ end_of g d → IsOfFour d (g.half.prev a) (g.half.prev b) (g.half.prev c) e
   of_round d a b c low x e l s =
-      let back : (y : ℕ) → g.half.next e ≡ y → e ≡ g.half.prev y = λ y k. sym (laws.prev_next e) ∙ ap g.half.prev k in
-      elim (one_of_four laws (g.half.next d) a b c (laws.next_low d low) x (g.half.next e)
-      (record { low = laws.next_low e l; at = s })) [
-        | inl k ↦ inl (back (g.half.next d) k ∙ laws.prev_next d)
-        | inr (inl k) ↦ inr (inl (back a k))
-        | inr (inr (inl k)) ↦ inr (inr (inl (back b k)))
-        | inr (inr (inr k)) ↦ inr (inr (inr (back c k)))
-      ]
+      grind (arith, one_of_four laws (g.half.next d) a b c (laws.next_low d low) x (g.half.next e))
 
 -- Where riders move, from where they start, and what each state that they reach knows.
 
@@ -159,8 +152,7 @@ pub record IsCrossedAt (g : Terrain) (s : State) (v : ℕ) : Type 0 where
 
 pub crossed_at : {g : Terrain} {s : State} {v x a b c : ℕ} → x < g.half.count → g.half.from x ≡ v
     → IsCross g.half x a b c → IsSoon s x → IsSoon s b → IsCrossedAt g s v
-crossed_at {x = x} {a = a} {b = b} {c = c} low at cross soon facing =
-    record { x = x; a = a; b = b; c = c; low = low; at = at; cross = cross; soon = soon; facing = facing }
+crossed_at {x = x} {a = a} {b = b} {c = c} low at cross soon facing = search rules
 
 -- What each state knows that is reached from a first one, where trails may begin with these darts. The darts ridden
 -- next differ, and leave vertices where a rider has stood; both ends of a covered edge are known; what was covered or

@@ -1,4 +1,5 @@
 -- Lists of marks and of riders by index, and lists of darts that differ.
+use Rattle.std.proofs.lemmas.Grind.{common_steps}
 use Rattle.std.proofs.Common.{rules, ◌≡◌, ◌⊎◌, ℕ, zero, suc, ◌<◌, ◌≤◌, Bool, true, false, eqb, ◌||◌, List, [], ◌∷◌}
 use Rattle.std.proofs.Common.{◌++◌, length, get_or, set, replicate, Option, Some, None, sym, ap, ◌∙◌, refl, inl, inr}
 use Rattle.std.proofs.{Common.arith, lemmas.Bool.false≢true, Math.Bool.or-false, Math.Bool.or_comm}
@@ -33,8 +34,7 @@ pub cover_more : (m : HalfEdges) → IsQuadManifold m → (marks : List Bool) (x
     → (ds es : List ℕ) → ((e : ℕ) → is_among e es ≡ (is_among e ds || eqb e x)) → (old : Bool) (d : ℕ) → d < m.count
     → is_on marks d ≡ (old || (is_among d ds || is_found (m.twin d) ds))
     → is_on (mark_twin (m.twin x) (set marks x true)) d ≡ (old || (is_among d es || is_found (m.twin d) es))
-cover_more m laws marks x low long ds es more old d l before =
-    rw (at (m.twin x) refl, before, more d, found_more (m.twin d)) (search rules)
+cover_more m laws marks x low long ds es more old d l before = search (rules, at, found_more)
   where
     one_way : (d e : ℕ) → d < m.count → is_found (m.twin d) (e ∷ []) ≡ true → is_found (m.twin e) (d ∷ []) ≡ true
     one_way d e ld f = search rules
@@ -50,13 +50,6 @@ cover_more m laws marks x low long ds es more old d l before =
     found_more : (o : Option ℕ) → is_found o es ≡ (is_found o ds || is_found o (x ∷ []))
     found_more None = refl
     found_more (Some t) = more t ∙ ap (λ b. is_among t ds || b) (sym (or-false _))
-
-    shuffle : (c m f a b : Bool) → ((c || (m || f)) || (a || b)) ≡ (c || ((m || a) || (f || b)))
-    shuffle true m f a b = refl
-    shuffle false true f a b = refl
-    shuffle false false true true b = refl
-    shuffle false false true false b = refl
-    shuffle false false false a b = refl
 
 -- The vertices that darts leave are marked.
 pub marked_long : (g : Terrain) (ds : List ℕ) (marks : List Bool) → length (marked_from g ds marks) ≡ length marks
@@ -128,10 +121,7 @@ apart_few n xs a low = no_more (length xs) n (λ i. get_or xs i 0) (λ k. k) (pl
 pub among_append : (d : ℕ) (xs ys : List ℕ) → is_among d (xs ++ ys) ≡ true → (is_among d xs ≡ true)
     ⊎ (is_among d ys ≡ true)
 among_append d [] ys m = inr m
-among_append d (x ∷ xs) ys m = elim (among_cases d x (xs ++ ys) m) [
-  | inl e ↦ inl (among_here d x xs e)
-  | inr k ↦ elim (among_append d xs ys k) [ inl a ↦ inl (among_later d x xs a) | inr b ↦ inr b ]
-]
+among_append d (x ∷ xs) ys m = grind (arith, common_steps)
 
 pub apart_append : (xs ys : List ℕ) → AreApart xs → AreApart ys → ((d : ℕ) → is_among d xs ≡ true → is_among d ys ≡ true
     → ⊥) → AreApart (xs ++ ys)

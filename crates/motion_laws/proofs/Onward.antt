@@ -39,19 +39,14 @@ rests_on g first k none = search (rules, still_riders)
 -- Steps keep the number of riders.
 pub later_long : (g : Terrain) (s : State) (k : ℕ) → length (later g s k).riders ≡ length s.riders
 later_long g s zero = refl
-later_long g s (suc k) = length-map (later g s k).riders (ride g (later g s k).stood (ridden (later g s k).riders))
-    ∙ later_long g s k
+later_long g s (suc k) = length-map _ _ ∙ later_long g s k
 
 -- Where the motion goes on until nobody runs, at most k steps, it is at one of its states.
 pub finish_later : (g : Terrain) (first : State) (k i : ℕ) → (j : ℕ) × (finish g k (later g first i) ≡ later g first j)
     × ((ridden (later g first j).riders ≡ []) ⊎ (j ≡ k + i))
 finish_later g first zero i = (i, refl, inr (omega arith))
 finish_later g first (suc k) i =
-    let r = finish_later g first k (suc i) in
-    elim (cases_List (ridden (later g first i).riders)) [
-      | inl is ↦ (i, at_rest g (suc k) (later g first i) is, inl is)
-      | inr (d, ds, is) ↦ search rules
-    ]
+    grind (arith, finish_later g first k (suc i), cases_List (ridden (later g first i).riders))
 
 -- What is counted where marks are off is no more where more are on.
 pub no_more_at : (b c : Bool) → (b ≡ true → c ≡ true) → cond c 0 1 ≤ cond b 0 1
@@ -65,12 +60,7 @@ module _ (g : Terrain) (t : IsTerrain g) (begins : ℕ → Bool) (first : State)
   -- Who has stood at a vertex stays so.
   pub stood_later : (i j v : ℕ) → i ≤ j → (later g first i).stood v ≡ true → (later g first j).stood v ≡ true
   stood_later i zero v le k = let s : i ≡ 0 = omega arith in rw (← s) k
-  stood_later i (suc j) v le k =
-      let rest = stood_later i j v in
-      elim (cases_eq i (suc j)) [
-        | inl s ↦ subst (λ (n : ℕ). (later g first n).stood v ≡ true) s k
-        | inr ne ↦ or_left _ _ (rest (omega arith) k)
-      ]
+  stood_later i (suc j) v le k = grind (arith, stood_later i j v, cases_eq i (suc j))
 
   -- No dart is ridden at two instants.
   pub rides_once : (e i j : ℕ) → i < j → is_among e (ridden (later g first i).riders) ≡ true
@@ -114,10 +104,7 @@ module _ (g : Terrain) (t : IsTerrain g) (begins : ℕ → Bool) (first : State)
       where
         at_most : (b : Bool) → cond b 0 1 ≤ 1
         at_most b = grind arith
-    runs_out (suc k) = elim (runs_out k) [
-      | inl none ↦ inl (rests_on g _ k none)
-      | inr low ↦ search (rules, rests_or_falls, later_reached)
-    ]
+    runs_out (suc k) = search (rules, rests_on, rests_or_falls, later_reached, runs_out k)
 
     -- After as many steps as there are vertices nobody runs.
     pub last_rests : ridden (later g first n).riders ≡ []
@@ -201,8 +188,7 @@ module _ (g : Terrain) (t : IsTerrain g) (begins : ℕ → Bool) (first : State)
       tracked = λ d e low w c.
           let more = λ (x k : ℕ) (p : Trail g.half begins s.covered x k).
           trail_more g.half _ _ cut (λ e c. or_left _ _ c) x k p in
-          let k = r.tracked d low (search rules) in
-          (k.0, elim k.1 [ inl p ↦ inl (more d k.0 p) | inr f ↦ inr (f.0, f.1, more f.0 k.0 f.2) ]);
+          grind (arith, r.tracked d low);
     }
 
     -- What is traced is a full cut.

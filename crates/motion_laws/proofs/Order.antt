@@ -1,4 +1,5 @@
 -- Events keep what event states show, so every order of events has one end.
+use Rattle.std.proofs.lemmas.Grind.{common_steps}
 use Rattle.std.proofs.Common.{rules, ◌≡◌, ℕ, zero, suc, ◌+◌, ◌-◌, ◌<◌, ◌≤◌, Bool, true, false, cond, eqb, ◌&&◌, ◌||◌}
 use Rattle.std.proofs.Common.{List, [], ◌∷◌, ◌++◌, length, set, replicate, Option, Some, None, sym, ap, ◌∙◌, refl, inl}
 use Rattle.std.proofs.{Common.inr, Common.arith, lemmas.List.length-append, Math.Bool.or-false}
@@ -71,8 +72,7 @@ module _ {g : Terrain} {starts : List ℕ} {n : ℕ} (w : IsCourse g starts n) w
   in_history : (k d : ℕ) → is_among d (history g starts k) ≡ true → (i : ℕ) × (i < k)
       × (is_among d (ridden (after i).riders) ≡ true)
   in_history zero d m = absurd (false≢true m)
-  in_history (suc k) d m = elim (among_append d (ridden (after k).riders) (history g starts k) m)
-      [ inl a ↦ (k, omega arith, a) | inr b ↦ let r = in_history k d b in (r.0, omega (arith, r.1), r.2) ]
+  in_history (suc k) d m = grind (arith, common_steps, in_history k d)
 
   not_before : (k d : ℕ) → is_among d (ridden (after k).riders) ≡ true → is_among d (history g starts k) ≡ true → ⊥
   not_before k d m b = let r = in_history k d b in rides_once g terrain _ _ (first g terrain _ begin) d _ k r.1 r.2 m
@@ -92,9 +92,7 @@ module _ {g : Terrain} {starts : List ℕ} {n : ℕ} (w : IsCourse g starts n) w
     | inl l ↦
         let e : (j - i) + i ≡ j = omega arith in
         search (rules, rest_more)
-    | inr l ↦
-        let e : (i - j) + j ≡ i = omega arith in
-        rw e at (rest_more j (i - j) b)
+    | inr l ↦ grind (arith, rest_more j (i - j) b)
   ]
 
   -- While somebody rides, fewer steps were made than there are vertices.
@@ -135,8 +133,7 @@ module _ {g : Terrain} {starts : List ℕ} {n : ℕ} {x : EventState} {c : ℕ} 
 
     pub ride_keeps : IsWithin g starts n (after_ride_of g x r) (suc c)
     ride_keeps =
-        let rode_low = reached.low dart rode.1 in
-        let more = λ (f : ℕ). noted_more x.noted r dart f noted_low rode.0 in
+        let more = λ (f : ℕ). noted_more _ r _ f noted_low rode.0 in
         record {
           course = course;
           instant = instant;
@@ -146,23 +143,17 @@ module _ {g : Terrain} {starts : List ℕ} {n : ℕ} {x : EventState} {c : ℕ} 
             covered_long = search rules;
             settled_long = shown.settled_long;
             stood = shown.stood;
-            covered = λ e l. cover_more g.half terrain.half x.covered dart rode_low shown.covered_long
-                (darts_in x.noted) (darts_in (set x.noted r (Some dart))) more (since.covered e) e l
-                (shown.covered e l);
+            covered = λ e l. grind (
+              arith,
+              cover_more g.half terrain.half x.covered dart (reached.low _ rode.1) shown.covered_long (darts_in x.noted)
+                  (darts_in (set x.noted r (Some dart))) more (since.covered e) e l (shown.covered e l),
+            );
             ends = λ v on. absurd (false≢true (sym (search rules) ∙ on));
             phase = inr (search rules);
-            rest = inr (
-              dart,
-              more dart ∙ or_right (is_among dart (darts_in x.noted)) (eqb dart dart) (eq-eqb dart dart refl),
-              (search rules),
-            );
+            rest = inr (dart, search (rules, eq-eqb), (search rules));
           };
-          counted = omega (arith, counted, noted_longer x.noted r dart noted_low rode.0);
+          counted = omega (arith, noted_longer _ r dart noted_low rode.0);
         }
-      where
-        mark_twin_long : (o : Option ℕ) (marks : List Bool) → length (mark_twin o marks) ≡ length marks
-        mark_twin_long None marks = refl
-        mark_twin_long (Some t) marks = length-set marks t true
 
   -- What holds wherever nobody waits.
   module _ (done : waiting x.riders x.noted ≡ 0) where
@@ -212,10 +203,10 @@ module _ {g : Terrain} {starts : List ℕ} {n : ℕ} {x : EventState} {c : ℕ} 
     stands_now u l = elim (cases_eq u v) [ inl e ↦ search (rules, all_ridden) | inr ne ↦ search rules ]
 
     pub settle_keeps : IsWithin g starts n (after_settling g x v) c
-    settle_keeps = at (are_ends_settled g (set x.settled v true) (darts_in x.noted)) refl
+    settle_keeps = at (are_ends_settled g _ _) refl
       where
         none : (u : ℕ) → is_on (replicate (length (set x.settled v true)) false) u ≡ false
-        none = none_on (length (set x.settled v true))
+        none = none_on _
 
         -- Where the instant ends, its motion is a step.
         settled_in : are_ends_settled g (set x.settled v true) (darts_in x.noted) ≡ true → (u : ℕ)
@@ -224,12 +215,7 @@ module _ {g : Terrain} {starts : List ℕ} {n : ℕ} {x : EventState} {c : ℕ} 
           | inl y ↦ rw y refl
           | inr off ↦
               let nobody : list_any (arrives_at g (ridden since.riders) u) (ridden since.riders) ≡ false =
-              false_from_ne_true _ (λ a.
-              let f = any_where (arrives_at g now u) now a in
-              let e = and_parts _ _ f.2 in
-              let there = all_at (λ f. is_settled (end_of g f)) f.0 (darts_in x.noted) on
-              (ap (is_among f.0) (all_ridden parts.0) ∙ f.1) in
-              false≢true (sym off ∙ (ap is_settled (sym (eqb-true _ _ e.0)) ∙ there))) in
+              false_from_ne_true _ (search (rules, any_where (arrives_at g now u) now, all_at, all_ridden parts.0)) in
               rw (off, nobody) refl
         ]
 
@@ -240,9 +226,9 @@ module _ {g : Terrain} {starts : List ℕ} {n : ℕ} {x : EventState} {c : ℕ} 
           instant = instant;
           shown = record {
             riders = told_riders;
-            stood_long = length-set x.stood v _ ∙ shown.stood_long;
+            stood_long = length-set _ v _ ∙ shown.stood_long;
             covered_long = shown.covered_long;
-            settled_long = length-set x.settled v true ∙ shown.settled_long;
+            settled_long = length-set _ v _ ∙ shown.settled_long;
             stood = stands_now;
             covered = shown.covered;
             ends = ends_then;
@@ -252,24 +238,22 @@ module _ {g : Terrain} {starts : List ℕ} {n : ℕ} {x : EventState} {c : ℕ} 
           counted = counted;
         }
         at true on =
-            let same : (decided_at g x v).riders ≡ (step g since).riders = closed_is told_riders
-            (all_noted riders parts.0) (λ d m. all_at (λ e. is_settled (end_of g e)) d (darts_in x.noted) on m) in
+            let same : (decided_at g x v).riders ≡ (step g since).riders = grind (
+              arith,
+              closed_is told_riders
+                  (all_noted riders parts.0),
+              all_at,
+            ) in
             record {
               course = course;
               instant = suc instant;
               shown = record {
-                riders = rw same (none_shown g (step g since).stood (ridden (step g since).riders)
-                    (is_on (replicate (length (set x.settled v true)) false)) (step g since).riders (length x.noted)
-                    (length-map since.riders (ride g since.stood now) ∙ sym riders.notes_long));
-                stood_long = length-set x.stood v _ ∙ shown.stood_long;
+                riders = grind (arith, common_steps);
+                stood_long = length-set _ v _ ∙ shown.stood_long;
                 covered_long = shown.covered_long;
-                settled_long = length-replicate (length (set x.settled v true)) false
-                    ∙ (length-set x.settled v true ∙ shown.settled_long);
-                stood = λ u l. stands_now u l ∙ (settled_in on u
-                    ∙ sym (rw (none u) (or-false ((step g since).stood u))));
-                covered = λ d l. shown.covered d l ∙ (ap (λ (ds : List ℕ). since.covered d
-                    || (is_among d ds || is_met g ds d)) (all_ridden parts.0)
-                    ∙ sym (none_more g (step g since) _ d (no_darts (length x.noted))));
+                settled_long = search (rules, length-replicate);
+                stood = search (rules, stands_now, settled_in, none);
+                covered = search (rules, all_ridden, no_darts);
                 ends = λ u on. absurd (false≢true (sym (none u) ∙ on));
                 phase = inr none;
                 rest = inl (no_darts (length x.noted), none);
@@ -282,10 +266,7 @@ module _ {g : Terrain} {starts : List ℕ} {n : ℕ} {x : EventState} {c : ℕ} 
       let apart = apart_append _ _ (notes_of _ _ riders.notes_long riders.noted reached.apart)
       (history_apart course instant) (search (rules, not_before, noted_rides)) in
       let low : (d : ℕ) → is_among d (darts_in x.noted ++ history g starts instant) ≡ true → d < g.half.count =
-      λ d m. elim (among_append d _ _ m) [
-        | inl a ↦ reached.low d (noted_rides riders d a)
-        | inr b ↦ let r = in_history course instant d b in (reached_at course r.0).low d r.2
-      ] in
+      grind (arith, among_append, noted_rides riders, in_history course instant, reached_at course) in
       search (rules, length-append, apart_few)
 
   -- Where a rider runs, some event is possible.
@@ -317,8 +298,7 @@ within_from : {g : Terrain} {starts : List ℕ} {n : ℕ} (es : List Event) (x y
     → IsWithin g starts n x c → Leads g x es y → IsWithin g starts n y (c + rides_in es)
 within_from [] x y c w l = let e : c + 0 ≡ c = omega arith in rw e (rw l at w)
 within_from {g} (Ride r ∷ es) x y c w l =
-    let e : c + suc (rides_in es) ≡ suc c + rides_in es = omega arith in
-    rw e (within_from es (after_ride_of g x r) y (suc c) (ride_keeps w r l.0.0 l.0.1) l.1)
+    search (rules, within_from es (after_ride_of g x r) y (suc c) (ride_keeps w r l.0.0 l.0.1) l.1)
 within_from {g} (Settle v ∷ es) x y c w l = within_from es (after_settling g x v) y c (settle_keeps w v l.0) l.1
 
 -- Every state that events lead to stands within an instant.
@@ -334,11 +314,7 @@ within {g} {starts} {n} w es x l =
         stood_long = marked_long g starts _ ∙ length-replicate n false;
         covered_long = length-replicate g.half.count false;
         settled_long = length-replicate n false;
-        stood = λ v l. from_marks g starts _ v (λ d m. omega (
-          arith,
-          w.few d (w.begin.low d m),
-          length-replicate n false,
-        )) ∙ rw (none_on n v) refl;
+        stood = search (rules, from_marks, length-replicate, none_on);
         covered = search (rules, none_on, no_darts);
         ends = λ v on. absurd (false≢true (sym (none_on n v) ∙ on));
         phase = inr (none_on n);

@@ -1,4 +1,5 @@
 -- The riders after a step: which darts they ride next, and that these differ.
+use Rattle.std.proofs.lemmas.Grind.{common_steps}
 use Rattle.std.proofs.Common.{rules, ◌≡◌, ◌⊎◌, ℕ, zero, suc, ◌<◌, Bool, true, List, [], ◌∷◌, map, length, Option, Some}
 use Rattle.std.proofs.Common.{None, sym, ap, ◌∙◌, refl, inl, inr, arith, ◌≢◌, false, cond, ◌&&◌, ◌||◌, set, replicate}
 use Rattle.std.proofs.lemmas.Bool.{false≢true, false_from_ne_true, ne_eqb, eq-eqb, cases_Bool, cases_eq}
@@ -53,12 +54,10 @@ module _ (g : Terrain) (stood : ℕ → Bool) (ds : List ℕ) where
   pub next_from : (rs : List Moving) (e : ℕ) → is_among e (riding rs) ≡ true
       → (d : ℕ) × (is_among d (ridden rs) ≡ true) × (stop_of g stood ds d ≡ None) × (e ≡ next_dart d)
   next_from [] e m = absurd (false≢true m)
-  next_from (r ∷ rs) e m =
-      let rest = next_from rs e in
-      elim (from_rider r r.stop (stop_of g stood ds r.dart) (riding rs) e refl refl m) [
-        | inl f ↦ (r.dart, rw f.0 (among_here r.dart r.dart (ridden rs) refl), f.1, f.2)
-        | inr k ↦ let n = rest k in (n.0, with_later r.stop r.dart n.0 (ridden rs) n.1, n.2, n.3)
-      ]
+  next_from (r ∷ rs) e m = elim (from_rider r r.stop (stop_of g stood ds r.dart) (riding rs) e refl refl m) [
+    | inl f ↦ (r.dart, rw f.0 (among_here r.dart r.dart (ridden rs) refl), f.1, f.2)
+    | inr k ↦ let n = (next_from rs e) k in (n.0, with_later r.stop r.dart n.0 (ridden rs) n.1, n.2, n.3)
+  ]
 
   -- And each rider that goes on rides its next dart.
   pub next_to : (rs : List Moving) (d : ℕ) → is_among d (ridden rs) ≡ true → stop_of g stood ds d ≡ None
@@ -73,7 +72,7 @@ module _ (g : Terrain) (stood : ℕ → Bool) (ds : List ℕ) where
 
   pub next_apart : (rs : List Moving) → AreApart (ridden rs) → NextDiffer rs → AreApart (riding rs)
   next_apart [] apart differ = tt
-  next_apart (r ∷ rs) apart differ = at_rider r.stop (stop_of g stood ds r.dart) refl refl apart (next_apart rs
+  next_apart (r ∷ rs) apart differ = at_rider _ _ refl refl apart (next_apart rs
       (apart_later _ _ _ apart) (λ d e m n. differ d e (with_later _ _ d _ m) (with_later _ _ e (ridden rs) n)))
     where
       at_rider : (o q : Option Stop) → r.stop ≡ o → stop_of g stood ds r.dart ≡ q
@@ -82,11 +81,7 @@ module _ (g : Terrain) (stood : ℕ → Bool) (ds : List ℕ) where
       at_rider (Some s) q is at a rest = rw is rest
       at_rider None (Some s) is at a rest = rw at rest
       at_rider None None is at a rest = rw at (
-        false_from_ne_true _ (λ m.
-            let n = next_from rs (next_dart r.dart) m in
-            let s = differ r.dart n.0 (rw is (among_here r.dart r.dart (ridden rs) refl))
-            (with_later r.stop r.dart n.0 (ridden rs) n.1) at n.2 n.3 in
-            false≢true (sym a.0 ∙ (ap (λ x. is_among x (ridden rs)) s ∙ n.1))),
+        false_from_ne_true _ (λ m. grind (arith, common_steps, next_from rs (next_dart r.dart) m, differ r.dart)),
         rest,
       )
 
@@ -146,12 +141,10 @@ pub somebody : (rs : List Moving) (ns : List (Option ℕ)) → (waiting rs ns �
     ⊎ ((r : ℕ) × (r < length rs) × (is_waiting (rider_at rs r).stop (note_at ns r) ≡ true))
 somebody [] ns = inl refl
 somebody (r ∷ rs) [] = inl refl
-somebody (r ∷ rs) (n ∷ ns) =
-    let rest = somebody rs ns in
-    elim (cases_Bool (is_waiting r.stop n)) [
-      | inl on ↦ inr (0, omega arith, on)
-      | inr off ↦ elim rest [ inl e ↦ inl (rw off e) | inr k ↦ inr (suc k.0, omega (arith, k.1), k.2) ]
-    ]
+somebody (r ∷ rs) (n ∷ ns) = elim (cases_Bool (is_waiting r.stop n)) [
+  | inl on ↦ inr (0, omega arith, on)
+  | inr off ↦ elim (somebody rs ns) [ inl e ↦ inl (rw off e) | inr k ↦ inr (suc k.0, omega (arith, k.1), k.2) ]
+]
 
 -- Where all that ran have notes, the noted darts are those ridden.
 pub darts_of : (bs : List Moving) (ns : List (Option ℕ)) → length ns ≡ length bs → AreNoted bs ns → AllNoted bs ns
@@ -228,18 +221,12 @@ module _ {g : Terrain} {stood : ℕ → Bool} {ds : List ℕ} {V : ℕ → Bool}
       → V (end_of g (rider_at rs r).dart) ≡ false
       → AreShown g stood ds V bs (set rs r (ridden_once_more (rider_at rs r))) (set ns r (Some (rider_at rs r).dart))
   ride_shown r l w off =
-      let (runs, none) = waits_runs (rider_at rs r).stop (note_at ns r) w in
+      let (runs, none) = waits_runs _ _ w in
       record {
         riders_long = length-set rs r _ ∙ a.riders_long;
         notes_long = length-set ns r _ ∙ a.notes_long;
         noted = search rules;
-        shows = λ q. elim (cases_eq q r) [
-          | inl s ↦ search rules
-          | inr ne ↦ rw (
-            get_or-set_other rs r q (ridden_once_more (rider_at rs r)) (begun 0) ne,
-            get_or-set_other ns r q (Some (rider_at rs r).dart) None ne,
-          ) (a.shows q)
-        ];
+        shows = search (rules, get_or-set_other);
       }
 
   -- Nothing noted: the riders are as at the start.
@@ -271,12 +258,7 @@ module _ {g : Terrain} {stood : ℕ → Bool} {ds : List ℕ} {V : ℕ → Bool}
 -- A new instant.
 pub none_shown : (g : Terrain) (stood : ℕ → Bool) (ds : List ℕ) (V : ℕ → Bool) (bs : List Moving) (k : ℕ)
     → length bs ≡ k → AreShown g stood ds V bs bs (replicate k None)
-none_shown g stood ds V bs k e = record {
-  riders_long = refl;
-  notes_long = length-replicate k None ∙ sym e;
-  noted = λ r d is. absurd (none-some d (sym (none k r) ∙ is));
-  shows = λ r. rw (none k r) refl;
-}
+none_shown g stood ds V bs k e = search (rules, length-replicate, none)
   where
     none : (k r : ℕ) → note_at (replicate k None) r ≡ None
     none zero r = refl

@@ -1,6 +1,7 @@
 -- Each step keeps what reached states know.
+use Rattle.std.proofs.lemmas.Grind.{common_steps}
 use Rattle.std.proofs.Common.{rules, ◌≡◌, ◌⊎◌, ℕ, zero, suc, ◌<◌, Bool, true, false, not, ◌&&◌, List, Some, None, sym}
-use Rattle.std.proofs.Common.{ap, ◌∙◌, refl, inl, inr, eqb, [], ◌∷◌, map, subst}
+use Rattle.std.proofs.Common.{arith, ap, ◌∙◌, refl, inl, inr, eqb, [], ◌∷◌, map, subst}
 use Rattle.std.proofs.lemmas.Bool.{eq-eqb, eqb-true, false≢true, false_from_ne_true, cases_Bool, or_left, or_right}
 use Rattle.std.proofs.lemmas.Bool.{or_cases, and_from, and_parts, not_from_false}
 use Rattle.def_cut.specs.Motion.{Terrain, State, end_of, straight, ridden, is_among, is_met, arrives_at}
@@ -79,8 +80,7 @@ module _ (g : Terrain) (t : IsTerrain g) where
       → e ≡ or_else (straight g d) d → IsNext stood ds d e
   is_next stood ds d e low on is =
       let o = goes_from g stood ds d on in
-      let next_low = t.half.next_low d low in
-      let (a, b, c, x) = t.crossed (g.half.next d) next_low o.0 o.1 in
+      let (a, b, c, x) = t.crossed (g.half.next d) (t.half.next_low d low) o.0 o.1 in
       search (rules, goes_straight)
 
   -- Straight on from different darts lead different darts.
@@ -120,12 +120,11 @@ module _ (g : Terrain) (t : IsTerrain g) where
 
     -- Where a ridden dart ends somebody has stood afterwards: whoever is met was there before.
     pub stands : (d : ℕ) → is_among d (ridden s.riders) ≡ true → (step g s).stood (end_of g d) ≡ true
-    stands d m = elim (cases_Bool (is_met g now d)) [
+    stands d m = elim (cases_Bool _) [
       | inl y ↦
-          let (e, w, f) = found_where (g.half.twin d) now y in
-          stood_old (end_of g d) (ap s.stood (sym (t.half.twin_ends d e (r.low d m) w).0) ∙ r.left e f)
-      | inr n ↦ or_right _ _ (any_at (arrives_at g now (end_of g d)) d now m
-          (and_from _ _ (eq-eqb _ _ refl) (not_from_false _ n)))
+          let (e, w, f) = found_where _ _ y in
+          stood_old _ (ap s.stood (sym (t.half.twin_ends d e (r.low d m) w).0) ∙ r.left e f)
+      | inr n ↦ search (rules, any_at, eq-eqb)
     ]
 
     pub next_is : (e : ℕ) → is_among e (ridden (step g s).riders) ≡ true → (d : ℕ)
@@ -147,33 +146,26 @@ module _ (g : Terrain) (t : IsTerrain g) where
     goes_through : (f a b c : ℕ) → Rides f → s.stood (end_of g f) ≡ false → g.boundary (end_of g f) ≡ false
         → g.singular (end_of g f) ≡ false → IsCross g.half (g.half.next f) a b c → is_among (g.half.prev a) now ≡ false
         → is_among (g.half.prev b) now ≡ false → IsCrossedAt g next (end_of g f)
-    goes_through f a b c m off inner regular x no_a no_b =
-        let is : or_else (straight g f) f ≡ c = ap (λ k. or_else k f) (goes_straight f a b c (r.low f m) x).1 in
-        let on : stop_of g s.stood now f ≡ None = rw (
-          unmet s.stood now r.apart r.low r.left f m off,
-          inner,
-          regular,
-          off,
-          two_bits s.stood now r.apart r.low r.left f a b c m off x,
-          no_a,
-          no_b,
-        ) refl in
-        opposite f a b c m x (inr (rw is at (next_to g s.stood now s.riders f m on)))
+    goes_through f a b c m off inner regular x no_a no_b = grind (
+      arith,
+      goes_straight f a b c (r.low f m) x,
+      unmet s.stood now r.apart r.low r.left f m off,
+      two_bits s.stood now r.apart r.low r.left f a b c m off x,
+      opposite f a b c m x,
+      next_to g s.stood now s.riders f m,
+    )
 
     decided : (f a b c : ℕ) → Rides f → s.stood (end_of g f) ≡ false → g.boundary (end_of g f) ≡ false
         → g.singular (end_of g f) ≡ false → IsCross g.half (g.half.next f) a b c → IsCrossedAt g next (end_of g f)
     decided f a b c m off inner regular x =
-        let next_low = t.half.next_low f (r.low f m) in
-        let pa = g.half.prev a in
         let end_a : end_of g (g.half.prev a) ≡ end_of g f = search rules in
-        let turned : IsCross g.half (g.half.next (g.half.prev a)) b c (g.half.next f) =
-        rw (t.half.next_prev a) (rotated g.half t.half (g.half.next f) a b c next_low x) in
+        let turned : IsCross g.half (g.half.next (g.half.prev a)) b c (g.half.next f) = grind arith in
         elim (cases_Bool (is_among (g.half.prev b) now)) [
           | inl y ↦ facing_too f a b c m x y
           | inr no_b ↦ elim (cases_Bool (is_among (g.half.prev a) now)) [
             | inr no_a ↦ goes_through f a b c m off inner regular x no_a no_b
             | inl n ↦ rw (← end_a) (elim (cases_Bool (is_among (g.half.prev c) now)) [
-              | inl y ↦ facing_too pa b c (g.half.next f) n turned y
+              | inl y ↦ facing_too (g.half.prev a) b c (g.half.next f) n turned y
               | inr no_c ↦ search (rules, goes_through)
             ])
           ]
@@ -210,9 +202,7 @@ module _ (g : Terrain) (t : IsTerrain g) where
         | inr (inr w) ↦ let p = r.trails w.0 w.2 in (p.0, inr (w.0, w.1, more w.0 p.0 p.1))
       ];
       through = λ d low k inner regular. elim (cases_Bool (s.stood (g.half.from d))) [
-        | inl y ↦
-            let x = r.through d low y inner regular in
-            crossed_at x.low x.at x.cross (inl (soon_then x.x x.soon)) (inl (soon_then x.b x.facing))
+        | inl y ↦ grind (arith, common_steps, r.through d low y inner regular)
         | inr off ↦ elim (or_cases (s.stood (g.half.from d)) _ k) [
           | inl y ↦ absurd (false≢true (sym off ∙ y))
           | inr n ↦
@@ -239,14 +229,9 @@ module _ (g : Terrain) (t : IsTerrain g) (first : State) (d : ℕ) (low : d < g.
   shut_at e l at = elim (cases_Option (g.half.twin e)) [ inl w ↦ inr (inl w) | inr (x, w) ↦ inl (all e x l at w) ]
 
   pub shut_before : IsShut g first (g.half.prev d)
-  shut_before = elim (cases_Option (g.half.twin (g.half.prev d))) [
+  shut_before = elim (cases_Option _) [
     | inl w ↦ inr (inl w)
-    | inr (a, w) ↦ inr (inr (
-      a,
-      w,
-      all a (g.half.prev d) (turn_low t.half d a low w)
-          (turn_from t.half d a low w) (back g t (g.half.prev d) a (t.half.prev_low d low) w),
-    ))
+    | inr (a, w) ↦ inr (inr (a, w, grind (arith, back g t (g.half.prev d) a (t.half.prev_low d low) w)))
   ]
 
   pub shut_beside : (e : ℕ) → g.half.twin d ≡ Some e → IsShut g first (g.half.next e)

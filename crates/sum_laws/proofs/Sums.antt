@@ -1,4 +1,5 @@
 -- Laws of sums of whole numbers.
+use Rattle.std.proofs.lemmas.Grind.{common_steps}
 use Rattle.std.proofs.Common.{rules, ◌≡◌, ℕ, zero, suc, ◌+◌, ◌<◌, List, [], ◌∷◌, ◌++◌, ℤ, pos, negsuc, ◌+ℤ◌, ◌-ℤ◌, ◌*ℤ◌}
 use Rattle.std.proofs.Common.{◌≤ℤ◌, ◌<ℤ◌, refl, zero-add, add-zero, add-one, sym, ap, inl, inr, ◌⊎◌, arith, ◌*◌, ◌≤◌}
 use Rattle.std.proofs.Common.{mul-zero, mul-add}
@@ -59,14 +60,7 @@ total_below_none f (suc n) none = search (rules, total_below_none f n (λ k l. n
 pub total_below_one : (f : ℕ → ℤ) (n u : ℕ) → u < n → ((k : ℕ) → k < n → (k ≡ u → ⊥) → f k ≡ pos 0)
     → total_below f n ≡ f u
 total_below_one f zero u l other = absurd (omega arith)
-total_below_one f (suc n) u l other = elim (cases_eq u n) [
-  | inl e ↦ omega (integers, ap f e, total_below_none f n (λ k lk. other k (omega arith) (λ ek. omega arith)))
-  | inr ne ↦ omega (
-    integers,
-    total_below_one f n u (omega arith) (λ k lk nk. other k (omega arith) nk),
-    other n (omega arith) (λ en. ne (sym en)),
-  )
-]
+total_below_one f (suc n) u l other = grind (arith, total_below_none f n, total_below_one f n u)
 
 -- The sums along a list and below a bound change places.
 pub two_orders : {X : Type 0} (f : ℕ → X → ℤ) (n : ℕ) (xs : List X) → total (λ x. total_below (λ k. f k x) n) xs
@@ -82,10 +76,7 @@ cases_neg (negsuc n) = inl (omega integers)
 -- A negative sum has a negative term.
 pub some_below : (f : ℕ → ℤ) (n : ℕ) → total_below f n <ℤ pos 0 → (k : ℕ) × (k < n) × (f k <ℤ pos 0)
 some_below f zero low = absurd (omega integers)
-some_below f (suc n) low = elim (cases_neg (f n)) [
-  | inl here ↦ (n, omega arith, here)
-  | inr there ↦ search (rules, some_below f n (omega integers))
-]
+some_below f (suc n) low = grind (arith, common_steps, cases_neg (f n), some_below f n)
 
 -- A run in two parts.
 pub span_sum : (f : ℕ → ℤ) (a m n : ℕ) → span f a (m + n) ≡ span f a m +ℤ span f (a + m) n
@@ -136,17 +127,13 @@ count_below_sum f g (suc n) = omega (arith, count_below_sum f g n)
 
 -- A sum of zeros below a bound.
 pub count_below_none : (f : ℕ → ℕ) (n : ℕ) → ((k : ℕ) → k < n → f k ≡ 0) → count_below f n ≡ 0
-count_below_none f n none =
-    omega (integers, count_below_total f n, total_below_none (λ k. pos (f k)) n (λ k l. ap pos (none k l)))
+count_below_none f n none = search (rules, count_below_total, total_below_none)
 
 -- No term is greater and one is less, and so is the sum.
 pub count_below_lt : (f g : ℕ → ℕ) (n u : ℕ) → u < n → ((k : ℕ) → k < n → f k ≤ g k) → f u < g u
     → count_below f n < count_below g n
 count_below_lt f g zero u l le lt = absurd (omega arith)
-count_below_lt f g (suc n) u l le lt = elim (cases_eq u n) [
-  | inl e ↦ omega (arith, ap f e, ap g e, count_below_le f g n (λ k lk. le k (omega arith)))
-  | inr ne ↦ omega (arith, count_below_lt f g n u (omega arith) (λ k lk. le k (omega arith)) lt, le n (omega arith))
-]
+count_below_lt f g (suc n) u l le lt = grind (arith, count_below_le f g n, count_below_lt f g n u)
 
 -- The first term of a count below a bound.
 pub count_below_prefix : (f : ℕ → ℕ) (n : ℕ) → count_below f (suc n) ≡ f 0 + count_below (λ k. f (suc k)) n
