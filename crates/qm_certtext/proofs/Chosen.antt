@@ -1,4 +1,5 @@
 -- The lists of one line more, and those before and behind the first `#f 3`.
+use Rattle.std.proofs.lemmas.Grind.{common_steps}
 use Rattle.std.proofs.Common.{rules, Bool, List, None, OnOk, Option, Result, Some, append-nil, arith, false, is_some, ℕ}
 use Rattle.std.proofs.Common.{inl, inr, not, refl, sym, true, ◌&&◌, ◌++◌, ◌∙◌, [], ap, ◌∷◌, ◌≡◌, length, map, ◌<◌}
 use Rattle.std.proofs.{Common.append_assoc, Common.◌||◌, lemmas.List.Concat.flat_map-append}
@@ -28,20 +29,13 @@ module _ {X : Type 0} (p : X → Bool) where
   split_there : (xs ys : List X) → list_any p xs ≡ true → (before_first p (xs ++ ys) ≡ before_first p xs)
       × (after_first p (xs ++ ys) ≡ after_first p xs ++ ys)
   split_there [] ys some = absurd (false≢true some)
-  split_there (x ∷ xs) ys some = elim (cases_Bool (p x)) [
-    | inl is ↦ rw is (refl, refl)
-    | inr other ↦
-        let whole = split_behind x (xs ++ ys) other in
-        grind (arith, split_there xs ys (rw other at some), whole, split_behind x xs other)
-  ]
+  split_there (x ∷ xs) ys some = grind (arith, split_behind x (xs ++ ys), split_there xs ys, split_behind x xs)
 
   -- Where none passes before it.
   split_one : (xs : List X) (y : X) (ys : List X) → list_any p xs ≡ false → p y ≡ true
       → (before_first p (xs ++ y ∷ ys) ≡ xs) × (after_first p (xs ++ y ∷ ys) ≡ ys)
   split_one [] y ys none is = rw is (refl, refl)
-  split_one (x ∷ xs) y ys none is =
-      let parts = or_parts (p x) _ none in
-      grind (arith, split_one xs y ys parts.1 is, split_behind x (xs ++ y ∷ ys) parts.0)
+  split_one (x ∷ xs) y ys none is = grind (arith, split_one xs y ys, split_behind x (xs ++ y ∷ ys))
 
 -- One line more.
 more : {Y : Type 0} (f : CertLine → List Y) (old new : List Y) (said : List CertLine) (line : CertLine) → old
@@ -82,9 +76,7 @@ starts first line = not (is_some first) && is_third line
 -- The lines before the first `#f 3` stay, and the next are those of another certificate.
 pub takes_third : (old new : Found) (line : CertLine) → starts old.first line ≡ true → new.first ≡ Some old.last
     → Holds new.last [] → TakesBoth old new line
-takes_third old new line start first empty said holds =
-    let both : (old.first ≡ None) × (is_third line ≡ true) = grind (arith, start) in
-    search (rules, split_one, list_any-append)
+takes_third old new line start first empty said holds = search (rules, split_one, list_any-append)
 
 -- Any other line is one of the last certificate.
 pub takes_other : (old new : Found) (line : CertLine) → starts old.first line ≡ false → new.first ≡ old.first
@@ -112,12 +104,6 @@ added_ok r h1 h2 h3 h4 h5 h6 = search rules
 
 -- The certificates of the lines of rounds.
 
--- A line that raises no floor joins the part behind it.
-joins : (line : CertLine) (said : List CertLine) → is_rise line ≡ false
-    → parts_of (line ∷ said) ≡ put_line line (parts_of said)
-joins (rise_line r) said plain = absurd cc
-joins _ said plain = refl
-
 -- Rises in front of such lines are a part of their own.
 rises_part : (rise : Rise) (rises : List Rise) (more : List CertLine) → begins_plain more ≡ true
     → parts_of (map rise_line (rise ∷ rises) ++ more) ≡ record { said = []; rises = rise ∷ rises } ∷ parts_of more
@@ -128,11 +114,8 @@ rises_part rise (next ∷ rises) more plain = ap (put_rise rise) (rises_part nex
 whole_part : (lines : List CertLine) (rise : Rise) (rises : List Rise) (more : List CertLine) → list_any is_rise lines
     ≡ false → begins_plain more ≡ true → parts_of (lines ++ (map rise_line (rise ∷ rises) ++ more))
     ≡ record { said = lines; rises = rise ∷ rises } ∷ parts_of more
-whole_part [] rise rises more none plain = rises_part rise rises more plain
-whole_part (line ∷ lines) rise rises more none plain =
-    let parts = or_parts (is_rise line) (list_any is_rise lines) none in
-    joins line (lines ++ (map rise_line (rise ∷ rises) ++ more)) parts.0
-    ∙ ap (put_line line) (whole_part lines rise rises more parts.1 plain)
+whole_part [] rise rises more none plain = rises_part _ _ _ plain
+whole_part (line ∷ lines) rise rises more none plain = grind (arith, whole_part lines rise rises more)
 
 -- Lines and the floors that rise behind them are a round of what is behind.
 pub round_first : (lines : List CertLine) (rises : List Rise) (more : List CertLine) → list_any is_rise lines ≡ false
@@ -144,10 +127,8 @@ round_first lines (rise ∷ rises) more none some plain = search (rules, whole_p
 -- Lines without a rise are one part.
 last_part : (line : CertLine) (lines : List CertLine) → list_any is_rise (line ∷ lines) ≡ false
     → parts_of (line ∷ lines) ≡ record { said = line ∷ lines; rises = [] } ∷ []
-last_part line [] none = joins line [] (or_parts (is_rise line) false none).0
-last_part line (next ∷ lines) none =
-    let parts = or_parts (is_rise line) (list_any is_rise (next ∷ lines)) none in
-    joins line (next ∷ lines) parts.0 ∙ ap (put_line line) (last_part next lines parts.1)
+last_part line [] none = search (rules, or_parts, false)
+last_part line (next ∷ lines) none = grind (arith, last_part next lines)
 
 -- They are a certificate alone.
 pub last_alone : (lines : List CertLine) → list_any is_rise lines ≡ false
@@ -201,14 +182,10 @@ chosen_certs Third (raised first cert) able = search (rules, list_any-append, no
 chosen_certs Rounds certificates able = sym (rounds_back (Floor 1 ∷ []) refl (λ said. refl) certificates able)
 chosen_certs _ _ able = absurd (cc able.0)
 
--- What may stand where no floor rises may stand anywhere.
-may_more : (rising : Rising) (line : CertLine) → may_stand Never line ≡ true → may_stand rising line ≡ true
-may_more rising line h1 = search rules
-
 all_more : (rising : Rising) (said : List CertLine) → list_all (may_stand Never) said ≡ true
     → list_all (may_stand rising) said ≡ true
 all_more rising [] all = refl
-all_more rising (line ∷ said) all = grind (arith, may_more rising line, all_more rising said, all)
+all_more rising (line ∷ said) all = search (rules, all_more rising said)
 
 -- The lines of certificates may stand.
 rounds_allowed : (certificates : Certificates) → AreWritable Rounds certificates
@@ -266,5 +243,4 @@ pub rounds_are : (old ended : Found) (last : Lists) → EndsRound old ended → 
     → risen_by ended.rounds.items (alone last) ≡ certificates_in Rounds said
 rounds_are old ended last ends is said hold =
     let end = ends said hold in
-    let same = simp append-nil at (end.same [] refl) in
-    rw (same, last_alone end.lines end.plain, held ended.last end.lines end.holds, is) refl
+    grind (arith, common_steps, end.same [], last_alone end.lines end.plain)

@@ -42,14 +42,7 @@ numeral = numerals_by_fold AreDigits digits_test after (record { empty = λ n. r
 -- A number that is not written with a leading zero is written so.
 pub written : (word : Word) → is_number word ≡ true → (ltb 1 (length word) && eqb (get_or word 0 0) 48) ≡ false
     → number_written word < 2 ^ 64 → word ≡ decimal (number_written word)
-written word is lead small =
-    let parts = and_parts (not (eqb (length word) 0)) _ (sym (number_all word) ∙ is) in
-    let some : 0 < length word = omega (arith, eqb-false (length word) 0 (not-true _ parts.0)) in
-    sym (decimal-digits_value numeral word parts.1 some (λ zero. grind (arith, nat_tests, lead, zero)) small)
-
--- A printed number is a number, without a leading zero.
-pub decimal_is_number : (n : ℕ) → n < 2 ^ 64 → is_number (decimal n) ≡ true
-decimal_is_number n low = search (rules, number_all, decimal_nonempty, decimal_digits)
+written word is lead small = grind (arith, decimal-digits_value numeral word)
 
 pub no_lead : (n : ℕ) → n < 2 ^ 64 → (ltb 1 (length (decimal n)) && eqb (get_or (decimal n) 0 0) 48) ≡ false
 unfolding digits
@@ -60,27 +53,33 @@ no_lead (suc n) low = and_right (ltb 1 (length (decimal (suc n)))) _
 -- What is not read as a count is none.
 pub no_count : (word : Word) (greatest n : ℕ) (o : Option ℕ) → greatest < 10 ^ 18 → n ≤ greatest → word ≡ decimal n
     → o ≡ cond (is_number word) (Some (min (number_written word) (2 ^ 64 - 1))) None → (o ≡ Some n)
-no_count word greatest n o few low is read = search (rules, decimal_is_number, decimal_number)
+no_count word greatest n o few low is read = search (
+  rules,
+  decimal_number,
+  number_all,
+  decimal_nonempty,
+  decimal_digits,
+)
 
 -- A count is read where there is one.
 pub count_read : (word : Word) (greatest n : ℕ) → greatest < 10 ^ 18 → n ≤ greatest
     → (ltb 1 (length word) && eqb (get_or word 0 0) 48) ≡ false
     → Some n ≡ cond (is_number word) (Some (min (number_written word) (2 ^ 64 - 1))) None → word ≡ decimal n
-count_read word greatest n few low lead read =
-    grind (arith, cases_Bool (is_number word), written word, read, lead)
+count_read word greatest n few low lead read = grind (arith, written word)
 
 -- And nowhere else: not where a zero leads.
 pub count_lead : (word : Word) (greatest n : ℕ) → greatest < 10 ^ 18 → n ≤ greatest
     → (ltb 1 (length word) && eqb (get_or word 0 0) 48) ≡ true → word ≡ decimal n → ⊥
 count_lead word greatest n few low lead is = search (rules, no_lead)
 
--- A number with a minus is below 0.
-no_minus : (n : ℕ) (digits : Word) → n < 2 ^ 64 → 45 ∷ digits ≡ decimal n → ⊥
-no_minus n digits low is = grind (arith, decimal_digits n low, ap (list_all is_ascii_digit) is)
-
 pub negative_form : (z : ℤ) (digits : Word) → unsigned_abs z < 10 ^ 18 → 45 ∷ digits ≡ signed_decimal z
     → (k : ℕ) × (z ≡ negsuc k) × (digits ≡ decimal (suc k)) × (suc k < 10 ^ 18)
-negative_form (pos n) digits low is = absurd (no_minus n digits (omega arith) is)
+negative_form (pos n) digits low is = absurd (grind (
+  arith,
+  decimal_digits n (omega arith),
+  ap (list_all is_ascii_digit)
+      is,
+))
 negative_form (negsuc k) digits low is = (k, refl, ap (drop 1) is, low)
 
 -- Where the digits behind the minus are those of 0, or of none.
@@ -96,16 +95,9 @@ none_negative z digits none low same = search (rules, negative_form)
 abbrev no_space : (word : Word) → Bool
 no_space word = list_all (λ b. not (eqb b 32)) word
 
-signed_bare : (z : ℤ) → unsigned_abs z < 10 ^ 18 → no_space (signed_decimal z) ≡ true
-signed_bare (pos n) low = digits_fail (λ b. eqb b 32) (digit_other 32 (omega arith)) (decimal n)
-    (decimal_digits n (omega arith))
-signed_bare (negsuc k) low = digits_fail (λ b. eqb b 32) (digit_other 32 (omega arith)) (decimal (suc k))
-    (decimal_digits (suc k) (omega arith))
-
 pub place_of_space : (text : Word) (z : ℤ) (up : ℕ) → unsigned_abs z < 10 ^ 18 → text
     ≡ signed_decimal z ++ 32 ∷ decimal up → position_or_len (λ b. eqb b 32) text ≡ length (signed_decimal z)
-place_of_space text z up low is = ap (position_or_len (λ b. eqb b 32)) is ∙ first_at (λ b. eqb b 32) (signed_decimal z)
-    32 (decimal up) (signed_bare z low) refl
+place_of_space text z up low is = search (rules, first_at, digits_fail, digit_other, decimal_digits)
 
 pub small_parts : (z : ℤ) (up : ℕ) → is_small z up ≡ true → (unsigned_abs z < 10 ^ 18) × (up < 2 ^ 32)
 small_parts z up is = search rules
@@ -131,12 +123,7 @@ module _ {text prefix behind : Word} {i : ℕ} (place : i ≡ position_or_len (�
   pub both_read : (rest : Word) (z : ℤ) (up : ℕ) → 0 < length behind → rest ≡ drop 1 behind → unsigned_abs z < 10 ^ 18
       → prefix ≡ signed_decimal z → up ≤ 2 ^ 32 - 1 → rest ≡ decimal up
       → (is_small z up ≡ true) × (text ≡ signed_decimal z ++ 32 ∷ decimal up)
-  both_read rest z up some is low written_so few ups = (
-    and_from _ _ (lt-ltb _ _ low) (lt-ltb _ _ (omega arith)),
-    sym (take-append-drop i text) ∙ ap₂ ◌++◌ (sym before ∙ written_so)
-        (sym back ∙ begins behind (back ∙ ap (λ (k : ℕ). drop k text) place) some
-        ∙ ap (λ (w : Word). 32 ∷ w) (sym is ∙ ups)),
-  )
+  both_read rest z up some is low written_so few ups = search (rules, take-append-drop, begins)
     where
       begins : (b : Word) → b ≡ drop (position_or_len (λ b. eqb b 32) text) text → 0 < length b → b ≡ 32 ∷ drop 1 b
       begins [] same none = absurd (omega arith)
@@ -158,11 +145,7 @@ module _ {text prefix behind : Word} {i : ℕ} (place : i ≡ position_or_len (�
       → (may_tell Rounds (record { arc = number - 1; floor = floor }) ≡ true)
       × (text ≡ decimal (number - 1 + 1) ++ 32 ∷ decimal floor)
   rise_read rest number floor some is low high number_is least floor_is =
-      let same : number - 1 + 1 ≡ number = omega arith in
-      let read = both_read rest (pos number) floor some is (omega arith) number_is (omega arith) floor_is in (
-        and_from _ _ (lt-ltb (number - 1) (2 ^ 32) (omega arith)) (le-leb floor 3 least),
-        read.1 ∙ ap (λ (n : ℕ). decimal n ++ 32 ∷ decimal floor) (sym same),
-      )
+      grind (arith, both_read rest (pos number) floor some is)
 
 pub some_behind : {X : Type 0} (behind : List X) → false ≡ eqb (length behind) 0 → 0 < length behind
 some_behind [] is = absurd (false≢true is)
@@ -175,6 +158,4 @@ pub split_once : (text : Word) (y z : ℤ) (u v : ℕ) → unsigned_abs y < 10 ^
 split_once text y z u v low_y low_z one two =
     let first = parts_are {text = text} {i = length (signed_decimal y)} (sym (place_of_space text y u low_y one)) refl
     refl in
-    let by_y = first y u low_y one in
-    let by_z = first z v low_z two in
-    (sym by_y.0 ∙ by_z.0, ap (drop 1) (sym by_y.1 ∙ by_z.1))
+    search rules

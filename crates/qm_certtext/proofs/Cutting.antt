@@ -42,13 +42,10 @@ behind_is text word mark rest behind i bare begins is place back = search (rules
 pub one_word : (a b x y mark : Word) → is_bare a ≡ true → is_bare b ≡ true → get_or mark 0 0 ≡ 32
     → a ++ (mark ++ x) ≡ b ++ (mark ++ y) → (a ≡ b) × (x ≡ y)
 one_word a b x y mark bare_a bare_b begins same =
-    let long : length a ≡ length b = sym (place_of a mark x bare_a begins) ∙ ap (position_or_len (λ c. eqb c 32)) same
-    ∙ place_of b mark y bare_b begins in
-    let prefix : a ≡ b = sym (take_at a (mark ++ x) (length a) refl) ∙ ap (take (length a)) same
+    let long : length a ≡ length b = search (rules, place_of) in
+    let prefix : a ≡ b = sym (take_at a (mark ++ x) (length a) refl) ∙ ap (take _) same
     ∙ take_at b (mark ++ y) (length a) (sym long) in
-    let behind : mark ++ x ≡ mark ++ y =
-    append_cancel_left a _ _ (same ∙ ap (λ (w : Word). w ++ (mark ++ y)) (sym prefix)) in
-    (prefix, append_cancel_left mark x y behind)
+    search (rules, append_cancel_left)
 
 abbrev floor_mark : Word
 floor_mark = codes " floor "
@@ -66,8 +63,7 @@ one_cut : {prefix line a b c d e f : Word} → IsCut prefix line a b c → IsCut
     × (c ≡ f)
 one_cut {a} {b} {c} {d} {e} {f} one two =
     let scales = one_word a d _ _ floor_mark one.scale_bare two.scale_bare refl (behind_prefix one.written two) in
-    let floors = one_word b e c f weight_mark one.floor_bare two.floor_bare refl scales.1 in
-    (scales.0, floors.0, floors.1)
+    grind (arith, one_word b e c f weight_mark one.floor_bare two.floor_bare)
 
 -- The words of settings have no space.
 digits_bare : (digits : Word) → list_all is_ascii_digit digits ≡ true → is_bare digits ≡ true
@@ -99,12 +95,7 @@ pub asked_words : {prefix line scale floor weight : Word} {settings : Settings} 
     → IsCut prefix line scale floor weight
     → AreInRange settings auto → line ≡ asked_line prefix settings auto → AreWordsOf scale floor weight settings auto
 asked_words {prefix} {line} {settings} {auto} cut range is =
-    let same = one_cut cut (asked_cut prefix line settings auto range is) in
-    record { scaled = same.0; bounded = same.1; weighed = same.2; in_range = range }
-
-words_asked : {prefix line scale floor weight : Word} (settings : Settings) (auto : Bool) → IsCut prefix line scale
-    floor weight → AreWordsOf scale floor weight settings auto → line ≡ asked_line prefix settings auto
-words_asked {prefix} settings auto cut words = search (rules, nested)
+    grind (arith, one_cut cut (asked_cut prefix line settings auto range is))
 
 pub no_floor : {prefix line rest : Word} → line ≡ prefix ++ rest → (first more : Word) → is_bare first ≡ true
     → rest ≡ first ++ (floor_mark ++ more)
@@ -121,7 +112,7 @@ pub asked_read : {prefix line scale floor weight : Word} (o : Option Asked) → 
     → MatchOption o ((settings : Settings) (auto : Bool) → AreInRange settings auto → line ≡ asked_line prefix settings
     auto → ⊥) (λ asked. AreInRange asked.settings asked.auto × (line ≡ asked_line prefix asked.settings asked.auto))
 asked_read None cut none = λ settings auto range is. none settings auto (asked_words cut range is)
-asked_read (Some asked) cut words = search (rules, words_asked)
+asked_read (Some asked) cut words = search (rules, nested)
 
 -- Behind the prefix of a head line they are those of the head line.
 pub head_read : (line : Word) (o : Option Asked) → MatchOption o ((settings : Settings) (auto : Bool) → AreInRange
@@ -149,19 +140,10 @@ same_ratio word p q r s one two =
 not_chosen : (floor : ℕ) → floor ≤ 3 → codes "auto" ≡ decimal floor → ⊥
 not_chosen floor low is = false≢true (ap (list_all is_ascii_digit) is ∙ decimal_digits floor (omega arith))
 
-pub same_floor : (f g : ℕ) (a b : Bool) → IsFloor f a → IsFloor g b → floor_text f a ≡ floor_text g b
-    → (f ≡ g) × (a ≡ b)
-same_floor f g a b h1 h2 h3 = search (rules, not_chosen, decimal_injective)
-
 same_weight : (v w : Weight) → weight_text v ≡ weight_text w → v ≡ w
 same_weight v w h1 = search rules
 
 -- Three words have one settings.
 pub same_settings : (scale floor weight : Word) (s t : Settings) (a b : Bool) → AreWordsOf scale floor weight s a
     → AreWordsOf scale floor weight t b → (s ≡ t) × (a ≡ b)
-same_settings scale floor weight s t a b one two =
-    let (p, q) = same_ratio scale s.p s.q t.p t.q (as_ratio scale s a one.scaled one.in_range)
-    (as_ratio scale t b two.scaled two.in_range) in
-    let floors = same_floor s.floor t.floor a b one.in_range.floor two.in_range.floor (sym one.bounded ∙ two.bounded) in
-    let weights = same_weight s.weight t.weight (sym one.weighed ∙ two.weighed) in
-    (λ i. record { p = p i; q = q i; floor = floors.0 i; weight = weights i }, floors.1)
+same_settings scale floor weight s t a b one two = search (rules, same_ratio, not_chosen, decimal_injective)

@@ -20,18 +20,12 @@ pub found_old : (prefix bytes : Bytes) (n : ℕ) (found : Option HeadAt) → IsF
 found_old prefix bytes n None is = tt
 found_old prefix bytes n (Some head) is = is.old
 
--- A line that begins so is the last one.
-found_next : (prefix bytes rest line : Bytes) (i at : ℕ) → rest ≡ tail_of i bytes → line
-    ≡ slice_index_or (lines_of bytes) i [] → starts_with nat_eq line prefix ≡ true → at ≡ length bytes - length rest
-    → IsFoundIn prefix bytes (i + 1) (Some (record { line = i; at = at }))
-found_next prefix bytes rest line i at tail is begins place = search (rules, first_lines, rest_is)
-
 -- One line more.
 pub found_more : (prefix bytes rest line : Bytes) (i at : ℕ) (found next : Option HeadAt) → rest ≡ tail_of i bytes
     → line ≡ slice_index_or (lines_of bytes) i [] → at ≡ length bytes - length rest → IsFoundIn prefix bytes i found
     → next ≡ (if starts_with nat_eq line prefix then Some (record { line = i; at = at }) else found)
     → IsFoundIn prefix bytes (i + 1) next
-found_more prefix bytes rest line i at found next tail is place before said = search (rules, found_next)
+found_more prefix bytes rest line i at found next tail is place before said = search (rules, first_lines, rest_is)
 
 -- The marked lines of a text, one line after another.
 
@@ -46,12 +40,9 @@ pub said_at : (rising : Rising) (behind : Lines) (said : List CertLine)
 said_at rising [] said texts all j low is = absurd (omega arith)
 said_at rising (line ∷ behind) [] texts all zero low is = cc (rw is at texts)
 said_at rising (line ∷ behind) (one ∷ more) texts all zero low is = search rules
-said_at rising (line ∷ behind) [] texts all (suc j) low is =
-    grind (arith, cases_Bool (is_hash_line line), texts, said_at rising behind [], is)
+said_at rising (line ∷ behind) [] texts all (suc j) low is = search (rules, said_at rising behind [])
 said_at rising (line ∷ behind) (one ∷ more) texts all (suc j) low is =
-    let behind_it = said_at rising behind more in
-    let all_of_it = said_at rising behind (one ∷ more) in
-    grind (arith, cases_Bool (is_hash_line line), texts, all, behind_it, all_of_it, is)
+    search (rules, said_at rising behind more, said_at rising behind (one ∷ more))
 
 -- Where no line was read, nothing is said.
 pub hold_none : (rising : Rising) (found : Found) → found.first ≡ None
@@ -69,20 +60,12 @@ module _ (rising : Rising) (behind : Lines) (i : ℕ) (line : Bytes) (old : Foun
       → IsLineFail rising line (number + i) fail → IsBehindFail rising number behind fail
   behind_fail number Head read why = why
   behind_fail number Memory read why = tt
-  behind_fail number (Line n) read why = record {
-    k = i;
-    bad = record {
-      there = low;
-      marked = ap is_hash_line (sym is) ∙ why.1;
-      bad = λ said says. why.2 said (rw is says);
-      before = λ j lt marked.
-          let same = get_or-take i behind j [] lt in
-          let there : j < length (take i behind) = omega (arith, length-take-le i behind (omega (arith, low))) in
-          rw (← same)
-          (said_at rising (take i behind) read.said read.texts read.allowed j there (ap is_hash_line same ∙ marked));
-    };
-    told = why.0;
-  }
+  behind_fail number (Line n) read why = search (
+    rules,
+    get_or-take i behind,
+    said_at rising (take i behind) read.said
+        read.texts read.allowed,
+  )
 
 -- What the bytes from the head line on tell, and those behind it.
 

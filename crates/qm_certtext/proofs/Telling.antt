@@ -1,4 +1,5 @@
 -- The lines of a certificate are read back, each in one way.
+use Rattle.std.proofs.lemmas.Grind.{common_steps}
 use Rattle.std.proofs.Common.{rules, append-nil, arith, false, filter, get_or, length, take-append-drop, unsigned_abs}
 use Rattle.std.proofs.Common.{Bool, List, [], ap₂, drop, map, pos, refl, take, true, ◌++◌, ◌+◌, ◌<◌, ◌^◌, ◌∙◌, ◌∷◌, ◌≡◌}
 use Rattle.std.proofs.Common.{ap, ℕ, ℤ, zero, suc}
@@ -14,36 +15,29 @@ use Rattle.{def_certtext.specs.declared.certs.Rising.Rising, std.proofs.lemmas.F
 use Rattle.{qm_certtext.proofs.Counts.small_parts, qm_certtext.proofs.Counts.split_once, def_text.specs.Types.Word}
 use Rattle.{qm_certtext.proofs.Counts.rise_small, qm_certtext.specs.Parts.is_rise}
 
-one_number : (y z : ℤ) → unsigned_abs y < 10 ^ 18 → unsigned_abs z < 10 ^ 18 → signed_decimal y ≡ signed_decimal z
-    → y ≡ z
-one_number y z h1 h2 h3 = search (rules, signed_decimal_injective)
-
 -- The same number and the same `up` behind a letter.
 same_dual : (rest : Word) (y z : ℤ) (u v : ℕ) → is_small y u ≡ true → is_small z v ≡ true → rest
     ≡ signed_decimal y ++ 32 ∷ decimal u → rest ≡ signed_decimal z ++ 32 ∷ decimal v → (y ≡ z) × (u ≡ v)
-same_dual rest y z u v small_y small_z one two =
-    let first = small_parts y u small_y in
-    let second = small_parts z v small_z in
-    let both = split_once rest y z u v first.0 second.0 one two in (
-      one_number y z first.0 second.0 both.0,
-      decimal_injective u v (omega arith) (omega arith) both.1,
-    )
+same_dual rest y z u v small_y small_z one two = grind (
+  arith,
+  common_steps,
+  split_once rest y z u v,
+  decimal_injective
+      u v,
+  signed_decimal_injective,
+)
 
 -- A text is one line.
 pub one_line : (rising : Rising) (a b : CertLine) → may_stand rising a ≡ true → may_stand rising b ≡ true
     → line_text a ≡ line_text b → a ≡ b
 one_line rising (Length m) (Length n) p q same = search (rules, decimal_injective)
-one_line rising (Vertex y u) (Vertex z v) p q same =
-    grind (arith, same_dual (signed_decimal y ++ 32 ∷ decimal u) y z u v p q refl (ap (drop 3) same))
-one_line rising (Set y u) (Set z v) p q same =
-    grind (arith, same_dual (signed_decimal y ++ 32 ∷ decimal u) y z u v p q refl (ap (drop 3) same))
+one_line rising (Vertex y u) (Vertex z v) p q same = grind (arith, same_dual _ y z u v p q refl (ap (drop 3) same))
+one_line rising (Set y u) (Set z v) p q same = grind (arith, same_dual _ y z u v p q refl (ap (drop 3) same))
 one_line rising (Floor f) (Floor g) p q same = search (rules, decimal_injective)
 one_line rising (rise_line r) (rise_line s) p q same =
-    let both = same_dual (decimal (r.arc + 1) ++ 32 ∷ decimal r.floor) (pos (r.arc + 1)) (pos (s.arc + 1)) r.floor
-    s.floor (rise_small rising r p) (rise_small rising s q) refl (ap (drop 3) same) in
-    let next : r.arc + 1 ≡ s.arc + 1 = cc both.0 in
-    let arcs : r.arc ≡ s.arc = omega arith in
-    λ i. rise_line (record { arc = arcs i; floor = both.1 i })
+    let both = same_dual _ (pos (r.arc + 1)) (pos (s.arc + 1)) _
+    _ (rise_small rising r p) (rise_small rising s q) refl (ap (drop 3) same) in
+    search rules
 one_line rising _ _ p q same = absurd (omega (arith, ap (λ (w : Word). get_or w 1 0) same))
 
 -- Texts are one list of lines.
@@ -59,10 +53,6 @@ pub all_marked : (said : List CertLine) → filter is_hash_line (map line_text s
 all_marked [] = refl
 all_marked (Length n ∷ said) = ap (λ (ls : List Word). line_text (Length n) ∷ ls) (all_marked said)
 all_marked (line ∷ said) = ap (λ (ls : List Word). line_text line ∷ ls) (all_marked said)
-
--- What holds of each length, or of each number with its `up`, holds of each line of them.
-lengths_each : (P : CertLine → Type 0) → ((n : ℕ) → P (Length n)) → (xs : List ℕ) → All P (map Length xs)
-lengths_each P each xs = All-map P Length xs (λ k d l. each _)
 
 duals_each : (P : CertLine → Type 0) (kind : ℤ → ℕ → CertLine) → ((z : ℤ) (u : ℕ) → P (kind z u))
     → (zs : List ℤ) (us : List ℕ) → All P (dual_lines kind zs us)
@@ -108,31 +98,12 @@ lists_back lists ups =
     (length-take-le m lists.up (omega arith)) in
     let ss = duals_all set_in set_up_in Set (λ z u. (refl, refl)) lists.z (drop m lists.up)
     (omega (arith, length-drop m lists.up)) in
-    let x = parts length_in a b c (lengths_all lists.x) (no_dual length_in Vertex (λ z u. refl) lists.y _)
-    (no_dual length_in Set (λ z u. refl) lists.z _) ∙ append-nil _ ∙ append-nil lists.x in
-    let y = parts vertex_in a b c (no_length vertex_in (λ n. refl) lists.x) vs.0
-    (no_dual vertex_in Set (λ z u. refl) lists.z _) ∙ append-nil lists.y in
-    let z = parts set_in a b c (no_length set_in (λ n. refl) lists.x)
-    (no_dual set_in Vertex (λ z u. refl) lists.y _) ss.0 in
-    let u = parts vertex_up_in a b c (no_length vertex_up_in (λ n. refl) lists.x) vs.1
-    (no_dual vertex_up_in Set (λ z u. refl) lists.z _) ∙ append-nil _ in
-    let v = parts set_up_in a b c (no_length set_up_in (λ n. refl) lists.x)
-    (no_dual set_up_in Vertex (λ z u. refl) lists.y _) ss.1 in
-    let up = ap₂ ◌++◌ u v ∙ take-append-drop m lists.up in
-    λ i. record { x = x i; y = y i; z = z i; up = up i }
+    search (rules, parts, lengths_all, no_dual, no_length, take-append-drop)
 
 -- What holds of no length, of no vertex and of no set holds of no line of a certificate.
 none_said : (p : CertLine → Bool) → ((n : ℕ) → p (Length n) ≡ false) → ((z : ℤ) (u : ℕ) → p (Vertex z u) ≡ false)
     → ((z : ℤ) (u : ℕ) → p (Set z u) ≡ false) → (lists : Lists) → list_any p (said_by lists) ≡ false
-none_said p length_off vertex_off set_off lists =
-    let Off = λ (line : CertLine). p line ≡ false in
-    let a = map Length lists.x in
-    let b = dual_lines Vertex lists.y (take (length lists.y) lists.up) in
-    let c = dual_lines Set lists.z (drop (length lists.y) lists.up) in
-    list_any-append p (a ++ b) c ∙ or_from _ _ (list_any-append p a b ∙ or_from _ _
-    (list_any_none p a (lengths_each Off length_off lists.x))
-    (list_any_none p b (duals_each Off Vertex vertex_off lists.y _)))
-    (list_any_none p c (duals_each Off Set set_off lists.z _))
+none_said p length_off vertex_off set_off lists = search (rules, list_any-append, list_any_none, duals_each, All-map)
 
 -- None of them names a floor.
 pub no_third : (lists : Lists) → list_any is_third (said_by lists) ≡ false

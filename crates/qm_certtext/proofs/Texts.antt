@@ -67,10 +67,8 @@ face_line_is : (face : List ℕ) → is_quad face ≡ true → list_all (λ v. l
     → IsLine (face_line face)
 face_line_is face quad low =
     let four = eqb-true _ _ quad in
-    line_tame 102 (map vertex_word face) refl (omega (arith, length-map face vertex_word)) (each_map IsWord vertex_word
-    face 0 [] (λ k l.
-    let small = ltb-true _ _ (passes_at (λ v. ltb v (2 ^ 32)) face k 0 low l) in
-    decimal_word (get_or face k 0 + 1) (omega arith)))
+    line_tame _ _ refl (omega (arith, length-map face vertex_word)) (each_map IsWord vertex_word face 0 []
+    (λ k l. grind (arith, passes_at, decimal_word (get_or face k 0 + 1))))
 
 -- A text that ends no line.
 abbrev IsInside : (text : Word) → Type 0
@@ -78,12 +76,9 @@ IsInside text = list_all is_inside text ≡ true
 
 mesh_inside : (soup : FaceSet) → IsPrintable soup → (k : ℕ) → k < length (canonical_lines soup)
     → IsInside (get_or (canonical_lines soup) k [])
-mesh_inside soup able = each_both IsInside (map position_line soup.pos) (map face_line soup.faces) []
-    (each_map IsInside position_line soup.pos [] [] (λ k l. let at = get_or soup.pos k [] in
-    tame_inside (position_line at) (position_line_is at (passes_at is_position soup.pos k [] able.positions l)).tame))
-    (each_map IsInside face_line soup.faces [] [] (λ k l. let face = get_or soup.faces k [] in
-    tame_inside (face_line face) (face_line_is face (passes_at is_quad soup.faces k [] able.quads l)
-    (passes_at (λ f. list_all (λ v. ltb v (2 ^ 32)) f) soup.faces k [] able.corners l)).tame))
+mesh_inside soup able = each_both IsInside _ _ []
+    (each_map IsInside position_line soup.pos [] [] (search (rules, tame_inside, position_line_is, passes_at)))
+    (each_map IsInside face_line soup.faces [] [] (search (rules, tame_inside, face_line_is, passes_at)))
 
 none_marked : {X : Type 0} (f : X → Word) → ((x : X) → is_hash_line (f x) ≡ false) → (xs : List X)
     → filter is_hash_line (map f xs) ≡ []
@@ -142,16 +137,14 @@ pub certs_tell : (rising : Rising) (behind : Lines) (certificates : Certificates
     ≡ map line_text (certificate_lines rising certificates) → AreWritable rising certificates → (other : Certificates)
     → TellCerts rising behind other ↔ (other ≡ certificates)
 certs_tell rising behind certificates texts able other =
-    let allowed = chosen_allowed rising certificates able in (
-      λ (tell : TellCerts rising behind other). tell.are ∙ ap (certificates_in rising)
-          (sym (one_list rising (certificate_lines rising certificates) tell.said allowed tell.allowed
-          (sym texts ∙ tell.texts))) ∙ sym (chosen_certs rising certificates able),
-      λ same. record {
-        said = certificate_lines rising certificates;
-        texts = texts;
-        allowed = allowed;
-        are = same ∙ chosen_certs rising certificates able;
-      },
+    let allowed = chosen_allowed _ _ able in (
+      λ (tell : TellCerts rising behind other). grind (
+        arith,
+        one_list rising (certificate_lines rising certificates)
+            tell.said allowed tell.allowed,
+        chosen_certs rising certificates able,
+      ),
+      search (rules, chosen_certs),
     )
 
 -- So do the lines of a mesh and of certificates.

@@ -1,4 +1,5 @@
 -- What lies across the side of a corner, where that is the whole of a side too.
+use Rattle.std.proofs.Common.{rules}
 use Rattle.std.proofs.Common.{◌≡◌, ◌↔◌, ℕ, suc, ◌-◌, Bool, true, false, not, Some, None, sym, ◌∙◌, ap, arith, Option}
 use Rattle.std.proofs.Common.{refl, true≢false, ◌≢◌, ◌⊎◌, ◌+◌, ◌<◌, ◌≤◌, inl, inr, ◌*◌, List, length, get_or, set}
 use Rattle.std.{proofs.Common.subst, proofs.Common.below_more, specs.Prelude.IfNone}
@@ -22,10 +23,7 @@ module _ {mesh : HalfEdges} (laws : IsQuadManifold mesh) {cut : Cut} (full : IsC
     (glued : AreGlued mesh cut s t n) {u : ℕ} (twin : mesh.twin s ≡ Some u) where
   -- The far side ends behind the twin.
   far_end : IsNextCorner mesh cut t (mesh.next u)
-  far_end =
-      let place : n ≡ suc (n - 1) = omega (arith, glued.near.some) in
-      let over = glued.across 0 (n - 1) (omega arith) in
-      (n - 1, rw (← place) glued.far, cc (same_Some u (easts mesh t (n - 1)) (sym twin ∙ over)))
+  far_end = grind (arith, glued.across 0 (n - 1))
 
   pub far_corner : IsCorner mesh cut (mesh.next u)
   far_corner = next_is_corner laws full far_end
@@ -62,8 +60,7 @@ pub record IsLess (mesh : HalfEdges) (rest less : Cut) (d : ℕ) : Type 0 where
 
 pub all_left : {mesh : HalfEdges} {cut rest : Cut} {s t n : ℕ} → HaveLeft mesh cut rest s t n n
     → IsWithout mesh cut rest s t n
-all_left {mesh} {rest} {s} {t} {n} left =
-    record { gone = λ d o. gone d o.0 o.1 o.2; kept = λ d l none. left.kept d none }
+all_left {mesh} {rest} {s} {t} {n} left = record { gone = λ d o. gone d _ o.1 o.2; kept = λ d l none. left.kept d none }
   where
     gone : (d k : ℕ) → k < n → (d ≡ easts mesh s k) ⊎ (d ≡ easts mesh t k) → rest d ≡ false
     gone d k l (inl e) = ap rest e ∙ (left.gone k (n - suc k) l (omega arith)).0
@@ -76,9 +73,7 @@ module _ {mesh : HalfEdges} (laws : IsQuadManifold mesh) {cut : Cut} (full : IsC
   left_more {less} {d} {k} l at left is = record {
     gone = λ i j li sum. elim (cases_eq i k) [
       | inl e ↦ (cc (e, at, is.gone), is.twin (easts mesh t j) (across j (omega arith)))
-      | inr ne ↦
-          let w = left.gone i j (omega arith) sum in
-          (is.off (easts mesh s i) w.0, is.off (easts mesh t j) w.1)
+      | inr ne ↦ grind (arith, left.gone i j, is.off (easts mesh s i), is.off (easts mesh t j))
     ];
     kept = λ e none. is.kept e (λ same. none (k, l, inl (same ∙ at))) (λ tw.
         let far = same_Some e (easts mesh t (n - suc k)) (sym tw ∙ across (n - suc k) (omega arith)) in
@@ -105,31 +100,10 @@ module _ {mesh : HalfEdges} {cut : Cut} {next long : List ℕ} {c : ℕ} (low : 
   -- One corner more, or a dart that is none.
   pub sides_more : {x m : ℕ} → IsWholeSide mesh cut c m → x ≡ mesh.next (easts mesh c (m - 1))
       → AreSides mesh cut (set next c x) (set long c m) (c + 1)
-  sides_more {x} {m} side end =
-      let long_here = get_or-set_same long c m 0 (omega (arith, sides.longs, low)) in
-      let next_here = get_or-set_same next c x 0 (omega (arith, sides.nexts, low)) in
-      record {
-        nexts = length-set next c x ∙ sides.nexts;
-        longs = length-set long c m ∙ sides.longs;
-        side = below_more (λ d. IsCorner mesh cut d → IsWholeSide mesh cut d (at (set long c m) d)) c
-            (λ d l corner. rw (get_or-set_other long c d m 0 (λ e. omega arith)) (sides.side d l corner))
-            (λ corner. rw long_here side);
-        after = below_more (λ d. IsCorner mesh cut d
-            → at (set next c x) d ≡ mesh.next (easts mesh d (at (set long c m) d - 1))) c
-            (λ d l corner. rw (
-              get_or-set_other long c d m 0 (λ e. omega arith),
-              get_or-set_other next c d x 0 (λ e. omega arith),
-            ) (sides.after d l corner))
-            (λ corner. cc (next_here, end, long_here));
-      }
+  sides_more {x} {m} side end = search rules
 
   pub sides_same : (IsCorner mesh cut c → ⊥) → AreSides mesh cut next long (c + 1)
-  sides_same none = assumption (
-    below_more (λ d. IsCorner mesh cut d → IsWholeSide mesh cut d (at long d)) c sides.side
-        (λ corner. absurd (none corner)),
-    below_more (λ d. IsCorner mesh cut d → at next d ≡ mesh.next (easts mesh d (at long d - 1))) c sides.after
-        (λ corner. absurd (none corner)),
-  )
+  sides_same none = search rules
 
 module _ {mesh : HalfEdges} (laws : IsQuadManifold mesh) {cut : Cut} (full : IsCut mesh cut) where
   -- No side is much longer than there are darts.
@@ -141,12 +115,7 @@ module _ {mesh : HalfEdges} (laws : IsQuadManifold mesh) {cut : Cut} (full : IsC
 
   module _ (links : Links) (are : AreLinks mesh cut links) where
     pub linked : (c : ℕ) → IsCorner mesh cut c → IsNextCorner mesh cut c (at links.next.items c)
-    linked c corner = (
-      at links.long.items c - 1,
-      subst (λ (m : ℕ). IsWholeSide mesh cut c m) (omega (arith, (are.side c corner.0 corner).some))
-          (are.side c corner.0 corner),
-      are.after c corner.0 corner,
-    )
+    linked c corner = grind (arith, are.side c corner.0 corner)
 
     -- The tables have room for the corners of two patches that become one.
     pub has_room : {s t : ℕ} {near far : Round} → IsRound mesh cut s near → IsRound mesh cut t far → (limit : ℕ)
@@ -158,22 +127,12 @@ module _ {mesh : HalfEdges} (laws : IsQuadManifold mesh) {cut : Cut} (full : IsC
         let far_fourth = next_is_corner laws full others.fourth in
         let few_at : (c : ℕ) → IsCorner mesh cut c → at links.long.items c ≤ mesh.count + 1 =
         λ c corner. side_few (are.side c corner.0 corner) in
-        omega (
-          arith,
-          few_at near.fourth near_fourth,
-          few_at far.second far_second,
-          few_at far.fourth far_fourth,
-          few_at near.second near_second,
-        )
+        omega (arith, few_at _ near_fourth, few_at _ far_second, few_at _ far_fourth, few_at _ near_second)
 
 -- What stands in a table in which two places were set.
 two_set : (xs : List ℕ) {ys : List ℕ} {a b x y : ℕ} → ys ≡ set (set xs a x) b y → (a ≡ b → ⊥) → a < length xs
     → b < length xs → (at ys a ≡ x) × (at ys b ≡ y) × ((c : ℕ) → (c ≡ a → ⊥) → (c ≡ b → ⊥) → at ys c ≡ at xs c)
-two_set xs {a = a} {b} {x} {y} is ne la lb = rw is (
-  get_or-set_other (set xs a x) b a y 0 ne ∙ get_or-set_same xs a x 0 la,
-  get_or-set_same (set xs a x) b y 0 (omega (arith, length-set xs a x)),
-  λ c na nb. get_or-set_other (set xs a x) b c y 0 nb ∙ get_or-set_other xs a c x 0 na,
-)
+two_set xs {a = a} {b} {x} {y} is ne la lb = search rules
 
 -- When an arc leaves, its patches become one.
 
@@ -220,9 +179,4 @@ module _ {mesh : HalfEdges} (laws : IsQuadManifold mesh) {cut rest : Cut} (full 
       ]
 
   pub links_after : AreLinks mesh rest new
-  links_after = record {
-    nexts = rw joined.next (length-set _ far.fourth near.third ∙ (length-set _ near.fourth far.third ∙ are.nexts));
-    longs = rw joined.long (length-set _ far.fourth _ ∙ (length-set _ near.fourth _ ∙ are.longs));
-    side = λ c l corner. (there c corner).0;
-    after = λ c l corner. (there c corner).1;
-  }
+  links_after = search (rules, there)

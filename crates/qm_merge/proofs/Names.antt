@@ -1,6 +1,6 @@
 -- The set of names: one put in, one taken out, and which ones are put in.
 use Rattle.std.proofs.Common.{◌≡◌, ℕ, zero, suc, ◌+◌, ◌<◌, ◌≤◌, Bool, true, false, cond, List, [], ◌∷◌, length, set}
-use Rattle.std.proofs.Common.{sym, ◌∙◌, refl, inl, inr, arith}
+use Rattle.std.proofs.Common.{rules, sym, ◌∙◌, refl, inl, inr, arith}
 use Rattle.std.proofs.lemmas.Bool.{cases_eq, false≢true, Decides.nat_tests}
 use Rattle.std.proofs.lemmas.List.{get_or-set_other, get_or-set_same, length-set}
 use Rattle.std.specs.{Ordering.nat_cmp, BTreeSet.BTreeSet, BTreeMap.is_at}
@@ -17,24 +17,16 @@ use Rattle.std.specs.BTreeSet as sorted
 pub few_more : (b : Bool) (old new : ℕ) → new ≡ old + cond b 1 0 → new ≤ old + 1
 few_more b old new e = grind arith
 
--- Another number is not at a number's place.
-apart_at : (k q : ℕ) → (k ≡ q → ⊥) → is_at (nat_cmp k) q ≡ false
-apart_at k q ne = grind (arith, nat_tests)
-
 module _ (old new : BTreeSet ℕ) (k : ℕ) (b : Bool) (up : sorted.Updates nat_cmp old new k b) where
   other : (name : ℕ) → (name ≡ k → ⊥) → sorted.contains nat_cmp new name ≡ sorted.contains nat_cmp old name
-  other name ne = up.2 name (apart_at k name (λ e. ne (sym e)))
+  other name ne = search (rules, nat_tests)
 
   -- A name still waits, unless it is taken out.
   pub still_waits : (name : ℕ) → (name ≡ k → b ≡ true) → Waits old name → Waits new name
-  still_waits name stays w =
-      elim (cases_eq name k) [ inl e ↦ rw e (up.1 ∙ stays e) | inr ne ↦ other name ne ∙ w ]
+  still_waits name stays w = search rules
 
   pub still_below : (count : ℕ) → (b ≡ true → k < count) → AreBelow old count → AreBelow new count
-  still_below count low below name w = elim (cases_eq name k) [
-    | inl e ↦ rw e (low (sym up.1 ∙ rw e at w))
-    | inr ne ↦ below name (sym (other name ne) ∙ w)
-  ]
+  still_below count low below name w = search rules
 
 -- No name gets too great when one is taken out.
 pub taken_below : (old new : BTreeSet ℕ) (k count : ℕ) → sorted.Updates nat_cmp old new k false
@@ -56,8 +48,7 @@ module _ {mesh : HalfEdges} (laws : IsQuadManifold mesh) {cut : Cut} (full : IsC
   pub seam_name : {s : ℕ} {seam : Seam} → IsSeam mesh cut s seam → {t n name : ℕ} → IsJoinable mesh cut s t n
       → IsNameOf mesh s t n name → seam.name ≡ name
   seam_name {s} {seam} is {t} {n} {name} arc named =
-      let far = one_far laws full is.joinable.glued arc.glued in
-      one_name mesh s t n seam.name name (rw (← far.1, ← far.0) is.named) named
+      grind (arith, one_far laws full is.joinable.glued arc.glued, one_name mesh s t n seam.name name)
 
   -- A seam may leave where each joinable arc may that begins there.
   pub seam_free : (may : Leave) {s : ℕ} {seam : Seam} → IsSeam mesh cut s seam → {t n : ℕ} → IsJoinable mesh cut s t n
@@ -92,8 +83,7 @@ module _ {mesh : HalfEdges} (laws : IsQuadManifold mesh) {cut : Cut} (full : IsC
       rw same (noted b n name (rw same at joined) (rw same at is)) in
       elim o.2 [
         | inl e ↦ from s t o.0 o.1 e arc named
-        | inr e ↦ other_noted names starts t s name
-            (from t s o.0 o.1 e (turned_arc laws full arc) (name_other mesh s t n name named))
+        | inr e ↦ other_noted names starts t s name (search (rules, turned_arc, name_other))
       ]
 
   -- One arc more is noted.
@@ -128,21 +118,11 @@ module _ {mesh : HalfEdges} (laws : IsQuadManifold mesh) {cut : Cut} (full : IsC
           ],
         )
 
--- Marks that go leave fewer.
-one_less : (a b : Bool) → (b ≡ true → a ≡ true) → cond b 1 0 ≤ cond a 1 0
-one_less a b l = grind arith
-
 pub fewer_marks : (old new : List Bool) → length new ≡ length old → ((d : ℕ) → is_on new d ≡ true → is_on old d ≡ true)
     → (mark_count new ≤ mark_count old)
     × ((d : ℕ) → is_on old d ≡ true → is_on new d ≡ false → mark_count new + 1 ≤ mark_count old)
 fewer_marks (a ∷ old) (b ∷ new) e less =
     let rest = fewer_marks old new (omega arith) (λ d. less (suc d)) in
-    let here = one_less a b (less 0) in (
-      omega (arith, rest.0),
-      elim [
-        | zero ↦ λ on off. rw (on, off) (omega (arith, rest.0))
-        | suc d ↦ λ on off. omega (arith, here, rest.1 d on off)
-      ],
-    )
+    grind (arith, less 0)
 fewer_marks [] [] e less = (omega arith, λ d on off. absurd (false≢true on))
 fewer_marks _ _ e less = absurd (omega arith)

@@ -31,9 +31,7 @@ module _ {mesh : HalfEdges} (laws : IsQuadManifold mesh) {cut rest : Cut} (full 
   stays_cut : (c : ℕ) → IsCorner mesh cut c → (c ≡ s → ⊥) → (c ≡ t → ⊥) → rest c ≡ true
   stays_cut c corner not_s not_t = still laws without c corner.0 (λ o.
       let (b, side, (k, on)) = on_side c o in
-      let first = first_place laws full on.side k on.low (cc (on.at, corner.2)) in
-      let same : c ≡ b = cc (on.at, first) in
-      elim side [ inl e ↦ not_s (same ∙ e) | inr e ↦ not_t (same ∙ e) ]) corner.1
+      grind (arith, first_place laws full on.side k on.low)) corner.1
 
   -- Where a side goes on, it still does.
   goes_on : {c m : ℕ} → IsWholeSide mesh cut c m → (k : ℕ) → suc k < m → rest (mesh.next (easts mesh c k)) ≡ false
@@ -45,11 +43,7 @@ module _ {mesh : HalfEdges} (laws : IsQuadManifold mesh) {cut rest : Cut} (full 
       → IsNextCorner mesh cut s c ⊎ IsNextCorner mesh cut t c
   on_end c corner o =
       let (b, side, (k, on)) = on_side (mesh.prev c) o in
-      let here : c ≡ mesh.next (easts mesh b k) = cc (laws.next_prev c, on.at) in
-      let next : IsNextCorner mesh cut b c = elim (cases_eq (suc k) n) [
-        | inl q ↦ (k, rw q on.side, here)
-        | inr ne ↦ absurd (true≢false (cc (corner.1, here, on.side.inside k (omega (arith, on.low)))))
-      ] in
+      let next : IsNextCorner mesh cut b c = search rules in
       elim side [ inl e ↦ inl (rw e at next) | inr e ↦ inr (rw e at next) ]
 
   pub corner_was : (c : ℕ) → IsCorner mesh rest c → IsCorner mesh cut c
@@ -64,8 +58,7 @@ module _ {mesh : HalfEdges} (laws : IsQuadManifold mesh) {cut rest : Cut} (full 
     inside = goes_on side;
     ends = λ k e.
         let next : IsNextCorner mesh cut c (mesh.next (easts mesh c k)) = (k, rw e side, refl) in
-        stays_cut (mesh.next (easts mesh c k)) (next_is_corner laws full next) (λ q. not_s (rw q at next))
-        (λ q. not_t (rw q at next));
+        search (rules, stays_cut (mesh.next (easts mesh c k)) (next_is_corner laws full next));
   }
 
   -- The corners of the two patches.
@@ -88,16 +81,13 @@ module _ {mesh : HalfEdges} (laws : IsQuadManifold mesh) {cut rest : Cut} (full 
     pub near_stays : IsCorner mesh rest near.fourth
     near_stays = (
       near_corner.0,
-      stays_cut near.fourth near_corner
-          (λ e. opposite laws full ones (one_next laws full ones.third (rw (← e ∙ sym (second_is e)) near_closes)))
-          (λ e. foreign near.fourth (inr (inr (inr refl))) (inl e)),
-      still laws without (mesh.prev near.fourth) (laws.prev_low near.fourth near_corner.0)
-          (λ o. elim (on_end near.fourth near_corner o) [
-            | inl next ↦ opposite laws full ones
-                (one_next laws full ones.third (rw (← one_next laws full next ones.second) near_closes))
-            | inr next ↦ foreign near.fourth (inr (inr (inr refl)))
-                (inr (inl (one_next laws full next others.second)))
-          ]) near_corner.2,
+      stays_cut _ near_corner (λ e. opposite laws full ones (one_next laws full ones.third (rw (← e ∙ sym (second_is e))
+          near_closes))) (λ e. foreign _ (inr (inr (inr refl))) (inl e)),
+      still laws without _ (laws.prev_low near.fourth near_corner.0) (λ o. elim (on_end _ near_corner o) [
+        | inl next ↦ opposite laws full ones
+            (one_next laws full ones.third (rw (← one_next laws full next ones.second) near_closes))
+        | inr next ↦ foreign _ (inr (inr (inr refl))) (inr (inl (one_next laws full next others.second)))
+      ]) near_corner.2,
     )
       where
         -- A corner that is the next of itself would be all four.
@@ -114,8 +104,7 @@ module _ {mesh : HalfEdges} (laws : IsQuadManifold mesh) {cut rest : Cut} (full 
     over : easts mesh near.fourth (suc a) ≡ far.second
     over =
         let turn = others.second in
-        let size = one_size laws full turn.1 arc.glued.far in
-        cc (near_closes.2, arc.glued.across 0 turn.0 (omega (arith, size)), turn.2)
+        grind (arith, one_size laws full turn.1 arc.glued.far, arc.glued.across 0 turn.0)
 
     along : (i j : ℕ) → i ≡ suc a + j → easts mesh near.fourth i ≡ easts mesh far.second j
     along i zero e = let here : i ≡ suc a = omega (arith, e) in cc (here, over)
@@ -134,8 +123,7 @@ module _ {mesh : HalfEdges} (laws : IsQuadManifold mesh) {cut rest : Cut} (full 
     last k e = cc (along k b (omega (arith, e)), others.third.2)
 
     shut : rest far.third ≡ true
-    shut = stays_cut far.third (next_is_corner laws full others.third)
-        (λ e. foreign far.third (inl e) (inr (inr (inl refl))))
+    shut = stays_cut _ (next_is_corner laws full others.third) (λ e. foreign _ (inl e) (inr (inr (inl refl))))
         (opposite laws full others)
 
     -- The side before s, as it goes on.
@@ -143,15 +131,7 @@ module _ {mesh : HalfEdges} (laws : IsQuadManifold mesh) {cut rest : Cut} (full 
         → IsWholeSide mesh rest near.fourth (m + k) × (far.third ≡ mesh.next (easts mesh near.fourth (m + k - 1)))
     near_side m k one two =
         let left = one_size laws full near_closes.1 one in
-        let right = one_size laws full others.third.1 two in (
-          record {
-            some = omega (arith, left);
-            corner = near_stays;
-            inside = λ i l. inside i (omega arith);
-            ends = λ i e. ap rest (last i (omega arith)) ∙ shut;
-          },
-          sym (last (m + k - 1) (omega arith)),
-        )
+        let right = one_size laws full others.third.1 two in search (rules, near_stays, inside, last, shut)
 
     -- The dart before the arc stands on it.
     pub near_over : (m : ℕ) × (k : ℕ) × StandsOn mesh rest near.fourth m k (mesh.prev s)
@@ -179,11 +159,7 @@ module _ {faces : Faces} {marks : List Bool} (rest : List Bool) (cutting : IsCut
   mesh = half_edges faces
 
   pub cutting_after : IsCutting faces rest
-  cutting_after = assumption (
-    long ∙ cutting.long,
-    join_law mesh (is_on marks) (is_on rest) place.start place.seam.far place.seam.long cutting.laws cutting.full
-        is.joinable without,
-  )
+  cutting_after = assumption (long ∙ cutting.long, join_law _ _ _ _ _ _ cutting.laws cutting.full is.joinable without)
 
   -- What is left was there.
   pub less_on : (d : ℕ) → is_on rest d ≡ true → is_on marks d ≡ true
@@ -240,20 +216,18 @@ module _ {faces : Faces} {marks : List Bool} (rest : List Bool) (cutting : IsCut
         let near_end = near_over laws cutting.full is.joinable without ones others in
         let far_end = near_over laws cutting.full (turned_arc laws cutting.full is.joinable) (other_without without)
         others ones in
-        elim (grown_law mesh (is_on marks) (is_on rest) place.start place.seam.far place.seam.long s t n laws
-        cutting.full is.joinable without arc) [
-          | inl before ↦ still s t n name arc named (kept s t n name arc named (was before))
-          | inr (inl o) ↦ still s t n name arc named
+        elim (grown_law _ _ _ _ _ _ s t n laws cutting.full is.joinable without arc) [
+          | inl before ↦ still s t n _ arc named (kept s t n name arc named (was before))
+          | inr (inl o) ↦ still s t n _ arc named
               (noted_over laws cutting_after.full near_end.2 between one_starts near_noted arc o named)
-          | inr (inr o) ↦ noted_over laws cutting_after.full far_end.2 new new_starts far_noted arc o named
+          | inr (inr o) ↦ noted_over laws cutting_after.full far_end.2 _ _ far_noted arc o named
         ]
 
 -- Whether an arc may leave, as the code tells it.
 
 module _ {faces : Faces} {marks breaks cut : List Bool} (is : IsBeside faces marks breaks cut) where
   pub breaks_long : length breaks ≡ vertex_count faces
-  breaks_long = ap length is.broken
-      ∙ (length-map (all_vertices faces) (is_break faces marks) ∙ length-range_with_len 0 (vertex_count faces))
+  breaks_long = ap length is.broken ∙ (length-map _ _ ∙ length-range_with_len 0 (vertex_count _))
 
   told : (d : ℕ) → d < darts faces → is_on breaks (from_of faces d) ≡ is_break faces marks (from_of faces d)
   told d l = ap (λ xs. is_on xs (from_of faces d)) is.broken ∙ get_or-map-range_with_len (is_break faces marks) 0

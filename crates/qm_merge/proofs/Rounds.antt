@@ -1,6 +1,6 @@
 -- The corners of a patch, one after the other.
 use Rattle.std.proofs.Common.{◌≡◌, ◌⊎◌, Bool, ◌||◌, eqb, ℕ, suc, ◌-◌, ◌<◌, true, false, sym, ◌∙◌, ap, refl, inl, inr}
-use Rattle.std.proofs.Common.{arith, zero, ◌+◌, ◌↔◌, min, Some, None, true≢false}
+use Rattle.std.proofs.Common.{rules, arith, zero, ◌+◌, ◌↔◌, min, Some, None, true≢false}
 use Rattle.std.proofs.lemmas.{Bool.cases_eq, Bool.cases_lt, Bool.Decides.nat_tests, Option.same_Some}
 use Rattle.def_cut.specs.{Cuts.Cut, Cuts.IsCorner, Cuts.IsCut, Steps.easts, Steps.step_east, Grids.IsGrid}
 use Rattle.cut_laws.proofs.Classes.{In, linked_in, closed, first_in}
@@ -24,26 +24,14 @@ among_four s round t = (λ on. grind (arith, nat_tests), λ is. grind (arith, na
 
 module _ {mesh : HalfEdges} (laws : IsQuadManifold mesh) {cut : Cut} (full : IsCut mesh cut) where
   pub next_is_corner : {c d : ℕ} → IsNextCorner mesh cut c d → IsCorner mesh cut d
-  next_is_corner {c} {d} n =
-      let x = easts mesh c n.0 in
-      let low = side_low laws full n.1 n.0 (omega arith) in (
-        rw n.2 (laws.next_low x low),
-        ap cut n.2 ∙ n.1.ends n.0 refl,
-        cc (n.2, laws.prev_next x, side_on laws full n.1 n.0 (omega arith)),
-      )
+  next_is_corner {c} {d} n = search (rules, side_low, side_on)
 
   -- A corner has one next corner, and is the next of one.
   pub one_next : {c d e : ℕ} → IsNextCorner mesh cut c d → IsNextCorner mesh cut c e → d ≡ e
-  one_next {c} {d} {e} a b =
-      let sizes = one_size laws full a.1 b.1 in
-      let same : a.0 ≡ b.0 = omega (arith, sizes) in
-      cc (a.2, same, b.2)
+  one_next {c} {d} {e} a b = search rules
 
   pub one_before : {c d e : ℕ} → IsNextCorner mesh cut c e → IsNextCorner mesh cut d e → c ≡ d
-  one_before {c} {d} {e} a b =
-      let same : easts mesh c a.0 ≡ easts mesh d b.0 =
-      cc (laws.prev_next (easts mesh c a.0), a.2, b.2, laws.prev_next (easts mesh d b.0)) in
-      (one_place laws full a.0 b.0 a.1 b.1 (omega arith) (omega arith) same).0
+  one_before {c} {d} {e} a b = grind (arith, one_place laws full a.0 b.0 a.1 b.1)
 
   -- Round a patch.
   module _ {s : ℕ} {round : Round} (is : IsRound mesh cut s round) where
@@ -72,10 +60,8 @@ module _ {mesh : HalfEdges} (laws : IsQuadManifold mesh) {cut : Cut} (full : IsC
 
       inside : (x : ℕ) → IsOneOf s round x → In mesh w h (grown mesh s) x
       inside x (inl here) = (0, record { a = 0; b = 0; a_low = omega arith; b_low = omega (arith, tall); is = here })
-      inside x (inr (inl here)) =
-          (1, record { a = w - 1; b = 0; a_low = omega arith; b_low = omega (arith, tall); is = here ∙ second })
-      inside x (inr (inr (inl here))) =
-          (2, record { a = w - 1; b = h - 1; a_low = omega arith; b_low = omega (arith, tall); is = here ∙ third })
+      inside x (inr (inl here)) = (1, search rules)
+      inside x (inr (inr (inl here))) = (2, search (rules, third))
       inside x (inr (inr (inr here))) =
           (3, record { a = 0; b = h - 1; a_low = omega arith; b_low = omega (arith, tall); is = here ∙ fourth })
 
@@ -151,38 +137,27 @@ module _ {mesh : HalfEdges} (cut : Cut) {s far d n t : ℕ} (at : d ≡ easts me
     on = elim (one_of_three name d t) [
       | inl e ↦ rw e (inr (0, omega arith, inr refl))
       | inr (inl e) ↦ rw e (inr (n, omega arith, inl at))
-      | inr (inr e) ↦ rw e (elim is.on [ inl q ↦ inl q | inr o ↦ inr (still_on name o) ])
+      | inr (inr e) ↦ search (rules, still_on)
     ];
-    least = λ x o. elim (one_more x o) [
-      | inl e ↦ omega arith
-      | inr (inl e) ↦ omega arith
-      | inr (inr was) ↦ omega (arith, is.least x was)
-    ];
+    least = λ x o. grind (arith, one_more x o, is.least x);
   }
     where
       -- A dart more of each side lies on the arc.
       one_more : (x : ℕ) → IsOnArc mesh s t (n + 1) x → (x ≡ d) ⊎ ((x ≡ t) ⊎ IsOnArc mesh s far n x)
-      one_more x (k, l, inl e) =
-          elim (cases_eq k n) [ inl q ↦ inl (cc (e, q, at)) | inr ne ↦ inr (inr (k, omega arith, inl e)) ]
+      one_more x (k, l, inl e) = search rules
       one_more x (zero, l, inr e) = inr (inl e)
-      one_more x (suc k, l, inr e) =
-          inr (inr (k, omega arith, inr (e ∙ behind mesh cut t far n k leads (omega arith))))
+      one_more x (suc k, l, inr e) = search (rules, behind)
 
       still_on : (x : ℕ) → IsOnArc mesh s far n x → IsOnArc mesh s t (n + 1) x
       still_on x (k, l, inl e) = (k, omega arith, inl e)
-      still_on x (k, l, inr e) = (suc k, omega arith, inr (e ∙ sym (behind mesh cut t far n k leads (omega arith))))
+      still_on x (k, l, inr e) = (suc k, omega arith, search (rules, behind))
 
 module _ {mesh : HalfEdges} (laws : IsQuadManifold mesh) {cut : Cut} (full : IsCut mesh cut) {s d n : ℕ}
     (corner : IsCorner mesh cut s) (at : d ≡ easts mesh s n)
     (inside : (k : ℕ) → k < n → cut (mesh.next (easts mesh s k)) ≡ false) where
   -- At the end of the near side.
   pub near_done : cut (mesh.next d) ≡ true → IsWholeSide mesh cut s (n + 1)
-  near_done on = record {
-    some = omega arith;
-    corner = corner;
-    inside = λ k l. inside k (omega arith);
-    ends = λ k e. let same : k ≡ n = omega arith in cc (same, at, on);
-  }
+  near_done on = search rules
 
   module _ {t far : ℕ} (tw : mesh.twin d ≡ Some t) (leads : LeadsOn mesh cut t n far) where
     pub glued_done : AreGluedSoFar mesh cut s far n → cut (mesh.next d) ≡ true → cut (mesh.prev t) ≡ true
@@ -190,14 +165,9 @@ module _ {mesh : HalfEdges} (laws : IsQuadManifold mesh) {cut : Cut} (full : IsC
     glued_done g on before =
         let near = near_done on in
         let low : d < mesh.count = rw at (side_low laws full near n (omega arith)) in
-        let more = glued_more cut at tw leads g in
         let some : 0 < n + 1 = omega arith in
-        let first : IsCorner mesh cut t = (
-          laws.twin_low d t low tw,
-          full.alike d t low tw ∙ (ap cut at ∙ side_on laws full near n (omega arith)),
-          before,
-        ) in
-        assumption (near, more)
+        let first : IsCorner mesh cut t = (laws.twin_low d t low tw, search (rules, side_on), before) in
+        assumption (near, (glued_more cut at tw leads g))
 
     pub name_done : {name : ℕ} → IsNameSoFar mesh s far n name → IsNameOf mesh s t (n + 1) (least_of_three name d t)
     name_done is =
@@ -221,8 +191,7 @@ module _ {mesh : HalfEdges} (laws : IsQuadManifold mesh) {cut : Cut} (full : IsC
         sym is ∙ over (m - suc n) (omega (arith, longer)) in absurd cc
 
     pub leads_there : {u far : ℕ} → mesh.twin d ≡ Some u → AreGluedSoFar mesh cut s far n → LeadsOn mesh cut u n far
-    leads_there {u} {far} tw g = here n (m - suc n) (omega (arith, longer))
-        (same_Some (easts mesh t (m - suc n)) u (sym (over (m - suc n) (omega (arith, longer))) ∙ tw)) g.across
+    leads_there {u} {far} tw g = here n (m - suc n) (omega (arith, longer)) (search (rules, over, longer)) g.across
       where
         here : (n j : ℕ) → n + suc j ≡ m → easts mesh t j ≡ u
             → ((k i : ℕ) → k + suc i ≡ n → mesh.twin (easts mesh s k) ≡ Some (easts mesh far i))

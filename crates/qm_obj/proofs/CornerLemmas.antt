@@ -1,4 +1,5 @@
 -- Corners and the indices between their slashes.
+use Rattle.std.proofs.lemmas.Grind.{common_steps}
 use Rattle.def_text.specs.declared.index.Index.{TheVariants.Vertex, TheVariants.Out}
 use Rattle.std.specs.List.{before_first, list_all, list_any, position_or_len, slice_split}
 use Rattle.std.proofs.lemmas.{Bool.Decides.nat_tests, Bool.cases_Bool, Bool.false≢true}
@@ -36,9 +37,7 @@ pub last_part : (tail : List ℕ) → (leb (length (parts_behind tail)) 1 && lis
 last_part [] = refl
 last_part (_ ∷ []) = refl
 last_part (_ ∷ b ∷ bs) =
-    let some = behind_some (b ∷ bs) in
-    let none = behind_none (b ∷ bs) in
-    grind (arith, nat_tests, cases_Bool (list_any is_slash (b ∷ bs)), some, none, no_digits (b ∷ bs), no_digits bs)
+    search (rules, behind_some (b ∷ bs), behind_none (b ∷ bs), cases_Bool (list_any is_slash (b ∷ bs)), no_digits bs)
 
 pub two_parts : (tail : List ℕ) → (leb (length (parts_behind tail)) 2 && list_all is_optional (parts_behind tail))
     ≡ (is_optional (before_first is_slash (drop 1 tail))
@@ -70,11 +69,7 @@ pub plain_index : (word : List ℕ) → is_number word ≡ true → (is_corner_w
     × (unsigned word ≡ word) × (is_negative word ≡ false)
 plain_index [] is = absurd (false≢true is)
 plain_index (b ∷ bs) all =
-    let whole = none_from_all is_ascii_digit is_slash (λ b is. grind (arith, nat_tests)) (b ∷ bs) all in
-    let signs : (eqb b 43 ≡ false) × (eqb b 45 ≡ false) = grind (arith, nat_tests) in
-    let bare : unsigned (b ∷ bs) ≡ b ∷ bs = rw (signs.0, signs.1) refl in
-    let corner = ap are_indices (behind_none (b ∷ bs) whole) ∙ rw (bare, all) refl in
-    (corner, all_before is_slash (b ∷ bs) whole, bare, signs.1)
+    grind (arith, common_steps, none_from_all is_ascii_digit is_slash, behind_none, all_before is_slash)
 
 -- Its line is the number.
 pub plain_corner : (before : ℕ) (word : List ℕ) (k corner : ℕ)

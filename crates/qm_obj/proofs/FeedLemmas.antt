@@ -1,4 +1,5 @@
 -- Lines and pieces that are taken one by one, and what is then kept.
+use Rattle.std.proofs.lemmas.Grind.{common_steps}
 use Rattle.def_text.specs.declared.refusal.ObjFail.{ObjFail, TheVariants.Memory, TheVariants.Limit}
 use Rattle.std.proofs.lemmas.List.{append-nil, append_assoc, length-append, Folds.list_any-append}
 use Rattle.std.proofs.lemmas.{Result.on_ok_weaker, Result.IfErr-weaker, Bool.eqb-true}
@@ -70,10 +71,7 @@ module _ {old : KeptText} (sound : IsSound old) where
           joined = joined;
           tail = [];
         }) line
-    ended_line none took = record {
-      same = λ lines. rw (are lines, none) (line_taken one sound.fits took (logical_lines (old.next + 1) lines));
-      next = refl;
-    }
+    ended_line none took = record { same = λ lines. rw (are _, none) (search (rules, line_taken)); next = refl }
 
     pub refused_line : {fail : ObjFail} → next_said old.positions old.faces one ≡ Refused fail
         → RefusesLine old line fail
@@ -121,14 +119,13 @@ module _ {old : KeptText} (sound : IsSound old) where
   fed_piece new prefix (Ok x) off is none took _ = record {
     took = record {
       same = λ more. rw (fed_lines old.tail prefix more sound.unended off, ← is, none) (took.same (lines_of more));
-      counted = omega (arith, count_append prefix (10 ∷ []), count_none prefix off);
+      counted = search (rules, count_append, count_none);
     };
     refused = tt;
   }
   fed_piece new prefix (Err fail) off is none _ stops = record {
     took = tt;
-    refused = λ other more.
-        rw (fed_lines old.tail prefix more sound.unended off, ← is) (stops other (lines_of more));
+    refused = λ other more. rw (fed_lines old.tail prefix more sound.unended off, ← is) (stops other (lines_of more));
   }
 
   -- A piece that ends no physical line.
@@ -221,12 +218,7 @@ stands_end {text = text} is stands = rw append-nil at (sym (stands.answers [])) 
 -- A source gave one piece more to a feed.
 pub fed_more : {before mid now : Told} {old new : Fed} {count more : ℕ} → FedTo before mid count old
     → FedPiece mid now old new more → FedTo before now (count + more) new
-fed_more {before} {mid} {now} fed piece = record {
-  text = fed.text ++ piece.piece;
-  given = gave_more before mid now fed.text piece.piece (fed.text ++ piece.piece) refl fed.given piece.moved;
-  many = omega (arith, length-append fed.text piece.piece);
-  stands = piece.stands fed.text fed.stands;
-}
+fed_more {before} {mid} {now} fed piece = grind (arith, common_steps, piece.stands fed.text fed.stands)
 
 -- It gave its last piece.
 pub fed_whole : {limit count : ℕ} {before now : Told} {fed : Fed} → FedTo before now count fed → count ≤ limit
@@ -236,8 +228,4 @@ fed_whole to few ended = search rules
 -- It gave more than it may.
 pub gave_beyond : {limit room : ℕ} {before mid now : Told} {fed : Fed} → FedTo before mid (limit - room) fed
     → room ≤ limit → GaveMore room mid now → GaveMore limit before now
-gave_beyond {before = before} {mid} {now} to few more = record {
-  piece = to.text ++ more.piece;
-  many = omega (arith, length-append to.text more.piece);
-  moved = gave_more before mid now to.text more.piece (to.text ++ more.piece) refl to.given more.moved;
-}
+gave_beyond {before = before} {mid} {now} to few more = grind (arith, common_steps, length-append to.text more.piece)

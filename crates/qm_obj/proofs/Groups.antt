@@ -26,14 +26,12 @@ group_span (line ∷ l ∷ ls) = grind (arith, groups_step l ls, group_span (l �
 group_size : (lines : Lines) → length (flat_map (λ l. l) (first_group lines)) ≡ size_ahead lines
 group_size [] = refl
 group_size (line ∷ []) = grind (arith, append-nil line)
-group_size (line ∷ l ∷ ls) =
-    grind (arith, groups_step l ls, group_size (l ∷ ls), append-nil line, length-append {A = ℕ})
+group_size (line ∷ l ∷ ls) = search (rules, length-append, group_size (l ∷ ls))
 
 pub group_text : (lines : Lines) → joined (first_group lines) ≡ text_ahead lines
 group_text [] = refl
 group_text (line ∷ []) = grind (arith, append-nil (before_first is_hash line))
-group_text (line ∷ l ∷ ls) =
-    grind (arith, groups_step l ls, group_text (l ∷ ls), append-nil (before_first is_hash line))
+group_text (line ∷ l ∷ ls) = grind (arith, group_text (l ∷ ls), append-nil (before_first is_hash line))
 
 -- The first logical line, and those behind its physical lines.
 pub logical_step : (number : ℕ) (line : List ℕ) (lines : Lines) → logical_lines number (line ∷ lines) ≡ first_logical
@@ -65,8 +63,7 @@ module _ (all : Lines) (i after : ℕ) (lt : i < after) (within : after ≤ leng
       ≡ first_logical (i + 1) (slice_range all i after) ∷ logical_lines (next + 1) (slice_range all next after)
   next_lines next is =
       let behind = range_drop all i (span (slice_range all i after)) after span_within.1 in
-      let n : i + 1 + span (slice_range all i after) ≡ next + 1 = omega arith in
-      rw (is, ← behind, ← is, ← n) (search (rules, cut, logical_step))
+      search (rules, cut, logical_step)
 
   module _ (line : List ℕ) (is : line ≡ get_or all i []) (off : continues line ≡ false) where
     pub here : slice_range all i after ≡ line ∷ slice_range all (i + 1) after
@@ -103,9 +100,8 @@ module _ {all : Lines} {first i after : ℕ} {p : Positions} {c : Faces} {l : Li
           → Took p p' c c' l l' (next_said p c (first_logical (i + 1) (slice_range all i after)))
           → IsAt all first next after p' c' l'
       at_next {next} is took = record {
-        within = omega (arith, span_within all i after lt within);
-        same = at.same ∙ rw (next_lines all i after lt within next is) (line_taken
-            (first_logical (i + 1) (slice_range all i after)) fits took _);
+        within = omega (arith, span_within _ i _ lt within);
+        same = at.same ∙ rw (next_lines _ i _ lt within _ is) (search (rules, line_taken));
       }
 
       -- A logical line that is refused.

@@ -1,4 +1,5 @@
 -- Physical lines that are joined to logical lines.
+use Rattle.std.proofs.lemmas.Grind.{common_steps}
 use Rattle.std.proofs.lemmas.List.Folds.{list_any-append, list_any_at, list_any_none}
 use Rattle.std.proofs.lemmas.List.{append-nil, append_assoc, length-append, length-take, Elements.All-take}
 use Rattle.std.proofs.lemmas.{Bool.Decides.nat_tests, Bool.false≢true, Bool.or_from}
@@ -67,20 +68,16 @@ cut_none (b ∷ bs) = grind (arith, cut_none bs)
 
 -- Nor has a line that goes on, with its space.
 space_none : (line : List ℕ) → continues line ≡ true → list_any is_hash (with_space line) ≡ false
-space_none line on = list_any-append _ (take (length line - 1) line) _ ∙ or_from _ _
-    (list_any_none _ _ (All-take (λ b. is_hash b ≡ false) (length line - 1) _ (search (rules, list_any_at)))) refl
+space_none line on = grind (arith, common_steps)
 
 joined_none : (lines : Lines) → list_any is_hash (text_ahead lines) ≡ false
 joined_none [] = refl
-joined_none (line ∷ lines) =
-    let more = list_any-append is_hash (with_space line) (text_ahead lines) in
-    grind (arith, joined_none lines, more, space_none line, cut_none line, uncommented_is line)
+joined_none (line ∷ lines) = grind (arith, common_steps, joined_none lines, cut_none line, uncommented_is line)
 
 -- Joined bytes and their size are the first logical line.
 pub joined_logical : (lines : Lines) (number : ℕ) {size : ℕ} {bytes : List ℕ} → size ≡ size_ahead lines
     → bytes ≡ text_ahead lines → line_as number size bytes ≡ first_logical number lines
-joined_logical lines number sizes are =
-    rw (sizes, are, uncommented_none (text_ahead lines) (joined_none lines)) refl
+joined_logical lines number sizes are = search (rules, uncommented_none, joined_none)
 
 -- What is kept behind a logical line, and its refusal, are those of the same line.
 module _ {a b : Logical} (same : a ≡ b) where
@@ -131,11 +128,7 @@ behind_alone kept line off none lines = rw none (logical_ends kept.next line lin
 pub behind_joined : (kept : KeptText) (line : Bytes) → continues line ≡ false → 0 < length kept.joined
     → list_any is_hash kept.joined ≡ false → (lines : Lines) → logical_behind kept (line ∷ lines) ≡ line_as kept.begun
     (length kept.joined + length line) (kept.joined ++ before_first is_hash line) ∷ logical_lines (kept.next + 1) lines
-behind_joined kept line off some bare lines =
-    let behind = before_first is_hash line in
-    let none : list_any is_hash (kept.joined ++ behind) ≡ false =
-    list_any-append is_hash kept.joined behind ∙ or_from _ _ bare (rw (← uncommented_is line) (cut_none line)) in
-    search (rules, uncommented_none, logical_ends, uncommented_is)
+behind_joined kept line off some bare lines = search (rules, list_any-append, cut_none, uncommented_none, logical_ends)
 
 -- What is joined, where no line comes behind.
 pub behind_nothing : (kept : KeptText) → 0 < length kept.joined → list_any is_hash kept.joined ≡ false

@@ -1,4 +1,5 @@
 -- What lines say one behind the other, which faces are late, and what clamping changes.
+use Rattle.std.proofs.lemmas.Grind.{common_steps}
 use Rattle.def_text.specs.declared.reading.Reading.TheVariants.{Passed, Position, Refused, Face}
 use Rattle.def_text.specs.declared.refusal.ObjFail.{ObjFail, TheVariants.Memory, TheVariants.Range}
 use Rattle.std.proofs.lemmas.List.{length-append, Sums.sum_by_push, Folds.list_all-append, Concat.flat_map-append}
@@ -96,12 +97,7 @@ kept_behind : (p : Positions) (c : Faces) (l : List ℕ) (said : List Reading) �
     → KeptBehind p c l said (kept_says p c l ++ said)
 kept_behind (x ∷ p) c l said sizes = grind (arith, kept_behind p c l said sizes)
 kept_behind [] (x ∷ c) (n ∷ l) said sizes = let again = kept_behind [] c l said (omega arith) in
-    record {
-      refusals = again.refusals;
-      positions_are = again.positions_are;
-      faces_are = ap (λ ys. x ∷ ys) again.faces_are;
-      late = λ k. rw (again.late k) (sym (append_assoc (late_in k (Face n x)) _ _));
-    }
+    grind (arith, common_steps)
 kept_behind [] [] [] said sizes = grind arith
 kept_behind [] _ _ said sizes = absurd (omega arith)
 
@@ -131,10 +127,8 @@ few_behind : (vertices faces : ℕ) (lines : List Logical) → vertices ≤ 2 ^ 
     → vertices + length (positions (readings_behind vertices faces lines)) ≤ 2 ^ 21
 few_behind v f [] few none = omega arith
 few_behind v f (line ∷ lines) few none =
-    let nones = parts_none (refusal_in (reading v f line)) _ none in
-    let suits = reading_suits v f line in
     let again = few_behind (v + cond (is_vertex_line line) 1 0) (f + cond (is_face_line line) 1 0) lines in
-    grind (arith, again, length-append {A = List ℤ})
+    grind (arith, length-append {A = List ℤ})
 
 -- A refusal is the first one whatever the soup would be; where there is none behind, the soups may differ no more.
 same_first : {R L M : List ObjFail} {s t : FaceSet} → (R ≡ [] → L ≡ M) → (R ≡ [] → L ≡ [] → s ≡ t)
@@ -203,8 +197,7 @@ fits_face line false old is kept numbered = rw (kept, numbered) old
 pub stops_at : (p : Positions) (c : Faces) (l : List ℕ) (line : Logical) (rest : List Logical) {fail : ObjFail}
     → length l ≡ length c → next_said p c line ≡ Refused fail → soup_behind p c l (line ∷ rest) ≡ Err fail
 stops_at p c l line rest {fail} sizes is =
-    let said : reading (length p) (length c) line ≡ Refused fail = grind arith in
-    kept_soup_is p c l (readings_behind (length p) (length c) (line ∷ rest)) sizes ∙ rw said refl
+    grind (arith, kept_soup_is p c l (readings_behind (length p) (length c) (line ∷ rest)) sizes)
 
 -- What all lines together say, where nothing was kept.
 readings_by_counts : (before lines : List Logical) → readings before lines
@@ -234,11 +227,7 @@ finished {p} {c} {l} old is (Ok s) made late = record {
   few = rw made.1 (omega (arith, few_pos p c), omega (arith, same_faces p c));
   refused = tt;
 }
-finished {p} {c} {l} old is (Err fail) made late = record {
-  soup = tt;
-  few = tt;
-  refused = λ other. is ∙ kept_alone p c l old.sizes ∙ by_late (first_late (length p) c l) (late other);
-}
+finished {p} {c} {l} old is (Err fail) made late = search (rules, kept_alone)
   where
     by_late : (first : Option ℕ) → IsLate fail first → late_or first (face_set p c) ≡ Err fail
     by_late None is = absurd is

@@ -1,4 +1,5 @@
 -- What the lines of a canonical text say, and the soup that they have.
+use Rattle.std.proofs.lemmas.Grind.{common_steps}
 use Rattle.def_text.specs.declared.reading.Reading.{Reading, TheVariants.Position, TheVariants.Face}
 use Rattle.std.proofs.lemmas.List.{FromFn.length-range_with_len, Elements.filter-append, Concat.flat_map-append}
 use Rattle.std.proofs.lemmas.List.{get_or-map, get_or_default, length-map, same_lists, take_all, Folds.flat_map-map}
@@ -31,8 +32,7 @@ each_both P (x ∷ xs) ys d a b (suc k) l = each_both P xs ys d (λ j m. a (suc 
 
 pub each_map : {X Y : Type 0} (P : Y → Type 0) (f : X → Y) (xs : List X) (c : X) (d : Y)
     → ((k : ℕ) → k < length xs → P (f (get_or xs k c))) → (k : ℕ) → k < length (map f xs) → P (get_or (map f xs) k d)
-each_map {X} {Y} P f xs c d each k l =
-    let there : k < length xs = omega (arith, length-map xs f) in rw (get_or-map f xs k c d there) (each k there)
+each_map {X} {Y} P f xs c d each k l = grind (arith, common_steps, each k)
 
 -- What images of images are, where all elements pass a test.
 images_are : {X Y Z : Type 0} (p : X → Bool) (f : X → Y) (g : Y → Z) (h : X → Z)
@@ -67,8 +67,7 @@ said_by_words vertices faces n is said = rw (le-ltb _ _ is.short) said
 -- The words of a position.
 position_words : (position : List ℤ) → is_position position ≡ true → AreWords (map micro_text position)
 position_words position is = each_map IsWord micro_text position (pos 0) [] (λ k l.
-    let near = passes_at (λ z. not (is_far z)) position k (pos 0) in
-    micro_word (get_or position k (pos 0)) (grind (arith, nat_tests, near)))
+    grind (arith, passes_at, micro_word (get_or position k (pos 0))))
 
 positions_say : (position : List ℤ) → list_all (λ z. not (is_far z)) position ≡ true
     → (list_all is_decimal (map micro_text position) ≡ true)
@@ -163,8 +162,7 @@ not_late n (f ∷ fs) [] all = refl
 -- Where all are used, all are kept.
 keeps_all : (p : ℕ → Bool) (n : ℕ) → ((k : ℕ) → k < n → p (k + 1) ≡ true) → filter p (numbers_to n) ≡ numbers_to n
 keeps_all p zero each = refl
-keeps_all p (suc n) each = let last = each n (omega arith) in
-    search (rules, filter-append, add-one, keeps_all p n (λ k l. each k (omega arith)))
+keeps_all p (suc n) each = grind (arith, common_steps, each n, keeps_all p n)
 
 all_used_to : (s : FaceSet) → IsSoup s → (k : ℕ) → k ≤ length s.pos
     → used_to (map (λ f. map (λ v. v + 1) f) s.faces) k ≡ numbers_to k
@@ -193,14 +191,12 @@ text_back s is =
     let lines = canonical_lines s in
     let n = 1 + length s.pos in
     let named = map (λ f. map (λ v. v + 1) f) s.faces in
-    let each = each_both IsLine (map position_line s.pos) (map face_line s.faces) []
-    (each_map IsLine position_line s.pos [] []
-    (λ k l. position_line_is (get_or s.pos k []) (passes_at is_position s.pos k [] is.positions l)))
+    let each = each_both IsLine (map position_line s.pos) (map face_line s.faces) [] (each_map IsLine position_line
+    s.pos [] [] (λ k l. position_line_is (get_or s.pos k []) (passes_at is_position s.pos k [] is.positions l)))
     (each_map IsLine face_line s.faces [] [] (λ k l. face_line_is (length s.pos) (get_or s.faces k []) is.few_vertices
     (passes_at is_quad s.faces k [] is.quads l) (passes_at (are_below (length s.pos)) s.faces k [] soup.in_range l))) in
     let count = range_with_len n (length s.faces) in
-    let sizes : length count ≡ length named =
-    length-range_with_len n (length s.faces) ∙ sym (length-map s.faces (λ f. map (λ v. v + 1) f)) in
+    let sizes : length count ≡ length named = grind (arith, common_steps, length-range_with_len n (length s.faces)) in
     let said = positions_are_said 0 0 1 s.pos (map face_line s.faces) is.positions (omega arith) in
     let behind = faces_said (length s.pos) 0 n s.faces is.few_vertices is.quads soup.in_range (omega arith) in
     let used = all_used_to s soup in

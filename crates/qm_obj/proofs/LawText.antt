@@ -45,11 +45,10 @@ decimal_word n l = record {
 fraction_plain : (n : ℕ) → n < 10 ^ 6 → (list_all is_plain (fraction_text n) ≡ true) × (length (fraction_text n) ≤ 21)
 fraction_plain n small =
     let digits = six_digits n in
-    let all = decimal_word (10 ^ 6 + n) (omega arith) in
     let kept = length digits - suffix_len (λ digit. eqb digit 48) digits in
     let rest : list_all is_plain (without_zeros digits) ≡ true = list_all-from_AllPass is_plain (without_zeros digits)
     (All-take (λ b. is_plain b ≡ true) kept digits (All-drop (λ b. is_plain b ≡ true) 1 _
-    (AllPass-from_list_all is_plain (decimal (10 ^ 6 + n)) all.plain))) in
+    (AllPass-from_list_all is_plain (decimal (10 ^ 6 + n)) (decimal_word (10 ^ 6 + n) (omega arith)).plain))) in
     let long = length-decimal-le 20 (10 ^ 6 + n) (omega arith) (omega arith) (omega arith) in search rules
 
 pub micro_word : (z : ℤ) → unsigned_abs z ≤ 999_999_999_999_999 → IsWord (micro_text z)
@@ -97,8 +96,7 @@ pub record IsLine (line : List ℕ) : Type 0 where
 
 pub line_tame : (letter : ℕ) (ws : Words) → is_tame letter ≡ true → length ws ≤ 4 → AreWords ws
     → IsLine (line_text letter ws)
-line_tame letter ws tame few each = let behind = behind_line ws each in
-    record { tame = and_from _ _ tame behind.0; short = omega arith }
+line_tame letter ws tame few each = grind (arith, behind_line ws each)
 
 -- A byte that ends no line.
 abbrev pub is_inside : ℕ → Bool

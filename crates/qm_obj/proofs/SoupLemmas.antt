@@ -1,4 +1,5 @@
 -- The used positions and the faces over them are a soup.
+use Rattle.std.proofs.lemmas.Grind.{common_steps}
 use Rattle.std.proofs.lemmas.List.{Sums.count_by-le-length, Kept.IsStrictlyIncreasing-filter, Elements.filter-append}
 use Rattle.std.proofs.lemmas.List.{get_or_append_left, length-append, Sums.length-filter, Elements.filter_passes}
 use Rattle.std.proofs.lemmas.List.{get_or_push, length_push, append-nil, length-map, take_more_set, drop_more, map_push}
@@ -49,13 +50,7 @@ rank_below faces n zero some le is = absurd (omega arith)
 rank_at : (faces : Faces) (n v : ℕ) → v < length (used_to faces n) → line_vertex faces (get_or (used_to faces n) v 0)
     ≡ v
 rank_at faces zero v lt = absurd (omega arith)
-rank_at faces (suc n) v lt =
-    let used = used_to faces n in
-    let before = get_or_append_left used (suc n ∷ []) 0 v in
-    let last = get_or_push used (suc n) 0 v in
-    let more = used_more faces n in
-    let long = length_push used (suc n) in
-    grind (arith, more, rank_at faces n v, append-nil used, cases_lt v (length used), before, last, long)
+rank_at faces (suc n) v lt = grind (arith, common_steps, rank_at faces n v)
 
 -- The renumbered corners of some of the faces are vertices.
 below_all : (faces : Faces) (n : ℕ) (some : Faces) → ((k : ℕ) → is_used some k ≡ true → is_used faces k ≡ true)
@@ -124,16 +119,13 @@ kept_mark {marks} {old} {positions} {names} {k} there on kept =
 -- One position more, that is dropped.
 pub kept_skip : {marks : List Bool} {old positions : Positions} {names : List ℕ} {k : ℕ} → get_or marks k false ≡ false
     → IsKept marks old positions names k → IsKept marks old positions names (k + 1)
-kept_skip {marks} {old} {positions} {k = k} off kept =
-    grind (arith, filter-append, append-nil (chosen marks k), drop_more_same positions old k)
+kept_skip {marks} {old} {positions} {k = k} off kept = search (rules, filter-append, drop_more_same)
 
 -- Marked are the used.
 pub chosen_used : (faces : Faces) (n : ℕ) (marks : List Bool) → IsMarked faces n marks → (k : ℕ) → k ≤ n
     → chosen marks k ≡ used_to faces k
 chosen_used faces n marks marked zero le = refl
-chosen_used faces n marks marked (suc k) le =
-    let chosen_next = filter-append (λ k. get_or marks (k - 1) false) (numbers_to k) (suc k ∷ []) in
-    grind (arith, used_more faces k, chosen_next, chosen_used faces n marks marked k, marked.each k)
+chosen_used faces n marks marked (suc k) le = search (rules, filter-append, chosen_used faces n marks marked k)
 
 -- Two functions have the same images, where they agree on all that passes a test.
 same_images : {X Y : Type 0} (p : X → Bool) (f g : X → Y) → ((x : X) → p x ≡ true → f x ≡ g x) → (xs : List X)
@@ -145,8 +137,7 @@ same_images p f g same (x ∷ xs) all = grind (arith, same x, same_images p f g 
 pub late_more : (vertices : ℕ) (faces : Faces) (lines : List ℕ) (i : ℕ) → i < length faces → length lines ≡ length faces
     → list_any (λ corner. ltb vertices corner) (get_or faces i []) ≡ false
     → first_late vertices (drop (i + 1) faces) (drop (i + 1) lines) ≡ first_late vertices (drop i faces) (drop i lines)
-late_more vertices faces lines i there size calm =
-    rw (drop_more faces i [] there, drop_more lines i 0 (omega arith), calm) refl
+late_more vertices faces lines i there size calm = grind (arith, common_steps, drop_more lines i 0)
 
 -- What was kept, counted and renumbered is the soup.
 pub made_of : (positions : Positions) (faces : Faces) (marks : List Bool) (made : FaceSet) (vertices : List ℕ)

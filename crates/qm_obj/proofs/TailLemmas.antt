@@ -1,4 +1,5 @@
 -- Lists that a loop changes position by position.
+use Rattle.std.proofs.lemmas.Grind.{common_steps}
 use Rattle.std.proofs.lemmas.List.Sums.{AllPass-from_list_all, sum_by-append, sum_by-cons, list_all-from_AllPass}
 use Rattle.std.proofs.lemmas.List.{length-take-le, take-append-drop, append-nil, Folds.list_any_none, Folds.list_any_at}
 use Rattle.std.proofs.lemmas.List.{drop-set-lt, get_or-drop, length-drop, length-take, take_more_set, length-append}
@@ -55,8 +56,7 @@ none_from_all p q to xs all = list_any_none q xs (λ k d l. to (get_or xs k d) (
 
 pub all_before : (p : ℕ → Bool) (xs : Bytes) → list_any p xs ≡ false → before_first p xs ≡ xs
 all_before p [] none = refl
-all_before p (x ∷ xs) none =
-    let e : 1 + position_or_len p xs ≡ suc (position_or_len p xs) = omega arith in grind (arith, e, all_before p xs)
+all_before p (x ∷ xs) none = grind (arith, common_steps, all_before p xs)
 
 -- Physical lines of a text whose last bytes are not ended.
 
@@ -83,8 +83,7 @@ opens (b ∷ c ∷ cs) more none some = grind (arith, opens (c ∷ cs) more)
 -- A line that ends.
 pub lines_fed : (prefix more : Bytes) → list_any is_line_feed prefix ≡ false → lines_of (prefix ++ 10 ∷ more)
     ≡ line_of prefix ∷ lines_of more
-lines_fed prefix more none = ap (map line_of) (by_prefix prefix none)
-    ∙ ap (λ line. without_last 13 line ∷ lines_of more) (fed_last prefix ∙ sym (same_last 10 prefix none))
+lines_fed prefix more none = search (rules, by_prefix, fed_last, same_last)
   where
     by_prefix : (prefix : Bytes) → list_any is_line_feed prefix ≡ false
         → pieces (prefix ++ 10 ∷ more) ≡ (prefix ++ 10 ∷ []) ∷ pieces more

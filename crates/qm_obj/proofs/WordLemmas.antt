@@ -1,4 +1,5 @@
 -- The words of a line, one after another.
+use Rattle.std.proofs.lemmas.Grind.{common_steps}
 use Rattle.def_text.specs.declared.refusal.ObjFail.TheVariants.{NotQuad, Range, Syntax}
 use Rattle.def_text.specs.declared.reading.Reading.TheVariants.{Passed, Face, Position, Refused}
 use Rattle.std.proofs.lemmas.List.{get_or-take, length-drop, length-take-le, Folds.list_all_more, Folds.list_all_at}
@@ -30,13 +31,7 @@ word_ahead : (b : ℕ) (bs : List ℕ) → is_blank b ≡ false → words (b ∷
 word_ahead b [] off = rw off refl
 word_ahead b (c ∷ cs) off =
     let e : 1 + position_or_len is_end cs ≡ suc (position_or_len is_end cs) = omega arith in
-    elim (cases_Bool (is_hash c)) [
-      | inl hash ↦ let end : is_end c ≡ true = or_right _ _ hash in rw (end, hash, off) refl
-      | inr bare ↦ elim (cases_Bool (is_blank c)) [
-        | inl blank ↦ let end : is_end c ≡ true = or_left _ _ blank in rw (end, bare, off, blank) refl
-        | inr after ↦ search (rules, word_ahead c cs after)
-      ]
-    ]
+    grind (arith, common_steps, word_ahead c cs)
 
 -- The first word of a line that is empty or begins with no blank.
 pub first_word : (rest : List ℕ) → (0 < length rest → is_blank (get_or rest 0 0) ≡ false)
@@ -96,11 +91,7 @@ next_read : {X : Type 0} {test : List ℕ → Bool} {says : List ℕ → X} {all
     → (count < length all) × (get_or all count [] ≡ word) × (after ≡ drop (count + 1) all)
 next_read read [] first is some = absurd (true≢false (sym is ∙ some))
 next_read {all = all} {count = count} read (b ∷ bs) {after} first is some =
-    let behind : drop count all ≡ (b ∷ bs) ∷ after = sym read.rest_is ∙ first in
-    let there : count < length all = omega (arith, ap length behind, length-drop count all) in
-    let parts : get_or all count [] ∷ drop (count + 1) all ≡ (b ∷ bs) ∷ after =
-    sym (drop_more all count [] there) ∙ behind in
-    (there, cc parts, cc parts)
+    grind (arith, common_steps, drop_more all count [])
 
 module _ {X : Type 0} {test : List ℕ → Bool} {says : List ℕ → X} {all : Words} {size count : ℕ} {rest : Words}
     {slots : List X} (read : IsReadTo test says all size count rest slots) (word : List ℕ) (after : Words) {none : Bool}
@@ -112,8 +103,7 @@ module _ {X : Type 0} {test : List ℕ → Bool} {says : List ℕ → X} {all : 
       let next = next_read read word first is some in search (rules, list_all_more)
 
   pub read_bad : none ≡ false → cond (test word) (Some (says word)) None ≡ None → list_all test all ≡ false
-  read_bad some says_none =
-      let next = next_read read word first is some in search (rules, list_all_at)
+  read_bad some says_none = grind (arith, common_steps, next_read read word first is some)
 
   -- No word is left, so all are read, each passes the test, and the slots have what the first ones say.
   all_read : none ≡ true → (length all ≡ count) × (list_all test all ≡ true)
@@ -162,5 +152,4 @@ pub face_read : {ws rest : Words} {count : ℕ} {corners : List ℕ} (line verti
     (cond (list_any (λ corner. eqb corner 0) corners) (Refused (Range line)) (Face line corners))
     (Refused (NotQuad line count))
 face_read {ws} {rest} {count} {corners} line vertices faces few so_far word after first is none =
-    let read = all_read so_far word after first is none in
-    grind (arith, nat_tests, any_out vertices ws, all_in vertices ws, take_all 4 ws)
+    grind (arith, common_steps, all_read so_far word after first is none, any_out vertices ws, all_in vertices ws)

@@ -13,11 +13,4 @@ push_cert-requires-in-Risen c = search (rules, used_risen, ups_used)
 
 pub returns-in_ok-push_rounds-in-Risen : goal.returns-in_ok-push_rounds-in-Risen
 returns-in_ok-push_rounds-in-Risen c =
-    let cert = c.in-Risen.cert in
-    let rounds = c.deref.result.now in
-    let lines : chosen_lines (certificates_of c.args.certs.now) ≡ round_lines rounds ++ said_by (lists_of cert) =
-    rw (c.in-Risen.is, c.deref.ensures.value, ← round_lines_are c.in-Risen.rounds.items (alone (lists_of cert))) refl in
-    let both = text_both (round_lines rounds) (said_by (lists_of cert)) in
-    let joined = append_assoc c.args.text.now.items (text_of (round_lines rounds)) (cert_lines cert) in
-    on_ok_weaker c.push_cert-in-Risen.result
-    (λ is. is ∙ rw (c.in_ok-push_rounds-in-Risen.ensures, lines, both, joined) refl) c.push_cert-in-Risen.ensures
+    search (rules, ← round_lines_are c.in-Risen.rounds.items, text_both, append_assoc c.args.text.now.items)

@@ -1,5 +1,5 @@
 use Rattle.qm_certtext.proofs.Cutting.{behind_is, not_stripped, prefix_bare, stripped}
-use Rattle.std.proofs.Common.{◌++◌, sym, ◌∙◌, ap₂, ap, take, ℕ}
+use Rattle.std.proofs.Common.{rules, ◌++◌, sym, ◌∙◌, ap₂, ap, take, ℕ}
 use Rattle.{qm_certtext.specs.Cuts.is_bare, std.proofs.lemmas.List.take-append-drop}
 use Rattle.qm_certtext.proofs.head.cut_word.Goals as goal
 
@@ -7,9 +7,7 @@ pub returns-in-Some : goal.returns-in-Some
 returns-in-Some c = (
   ap is_bare (c.split_at.ensures.front ∙ ap (λ (k : ℕ). take k c.args.text.now) c.find_byte.ensures.exact)
       ∙ prefix_bare c.args.text.now,
-  sym (take-append-drop c.find_byte.result c.args.text.now)
-      ∙ ap₂ ◌++◌ (sym c.split_at.ensures.front) (sym c.split_at.ensures.back ∙ stripped c.args.mark.now
-      c.split_at.result.1.now c.in-Some.rest.now c.in-Some.ensures.cases.0 c.in-Some.ensures.cases.1),
+  search (rules, stripped),
 )
 
 pub returns-in-None : goal.returns-in-None

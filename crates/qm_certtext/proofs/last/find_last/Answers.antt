@@ -16,13 +16,8 @@ pub lines-preserved : goal.lines-preserved
 lines-preserved c =
     let i = c.lines.invariant in
     let cut = c.in-Some.ensures in
-    let there = cut_there c.args.bytes.now _ c.lines.i i.rest _ _ cut.line cut.rest in
-    record {
-      rest = cut_behind c.args.bytes.now _ c.lines.i i.rest _ _ cut.line cut.rest;
-      low = omega arith;
-      found = found_more c.args.prefix.now c.args.bytes.now _ _ c.lines.i _ c.lines.found _ i.rest
-          (cut_is c.args.bytes.now _ c.lines.i i.rest _ _ cut.line cut.rest) refl i.found c.found_with-found.ensures;
-    }
+    let there = cut_there c.args.bytes.now _ _ i.rest _ _ cut.line cut.rest in
+    search (rules, cut_behind, found_more, cut_is)
 
 pub returns-clause-last : goal.returns-clause-last
 returns-clause-last c = search (rules, cut_ended)

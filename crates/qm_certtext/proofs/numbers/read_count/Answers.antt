@@ -9,5 +9,4 @@ pub returns-in_default : goal.returns-in_default
 returns-in_default c n low is = search (rules, no_count)
 
 pub returns-in_default-2 : goal.returns-in_default-2
-returns-in_default-2 c n low is =
-    cc (no_count c.args.word.now c.args.greatest n None c.requires low is c.in_default.ensures)
+returns-in_default-2 c n low is = cc (no_count _ _ n _ c.requires low is c.in_default.ensures)

@@ -1,4 +1,4 @@
-use Rattle.std.proofs.Common.{arith, drop, pos, ◌+◌, length, sym, ap, ◌∙◌}
+use Rattle.std.proofs.Common.{rules, arith, drop, pos, ◌+◌, length, sym, ap, ◌∙◌}
 use Rattle.{std.proofs.lemmas.Bool.eqb-true, def_certtext.specs.declared.certs.Rising.TheVariants.Rounds}
 use Rattle.qm_certtext.proofs.Counts.{no_behind, rise_low, rise_not_zero, rise_parts, rise_read, rise_small}
 use Rattle.qm_certtext.proofs.Counts.{some_behind}
@@ -11,9 +11,8 @@ returns-then-is_empty c rise may = no_behind c.find_byte.ensures.exact c.split_a
 
 pub returns-in_default : goal.returns-in_default
 returns-in_default c rise may is =
-    let parts = rise_parts c.find_byte.ensures.exact c.split_at.ensures.front c.split_at.ensures.back rise may is in
-    c.in_default.ensures rise.floor (omega (arith, (rise_low Rounds rise may).1))
-    (c.behind_first.ensures ∙ ap (drop 1) parts.1)
+    let parts = rise_parts c.find_byte.ensures.exact c.split_at.ensures.front c.split_at.ensures.back _ may is in
+    search rules
 
 pub returns-in-Some-read_count : goal.returns-in-Some-read_count
 returns-in-Some-read_count c = rise_read c.find_byte.ensures.exact c.split_at.ensures.front c.split_at.ensures.back
@@ -27,5 +26,4 @@ returns-in_default-read_count c = rise_not_zero c.find_byte.ensures.exact c.spli
 
 pub returns-in_default-read_count-2 : goal.returns-in_default-read_count-2
 returns-in_default-read_count-2 c rise may is =
-    let parts = rise_parts c.find_byte.ensures.exact c.split_at.ensures.front c.split_at.ensures.back rise may is in
-    c.in_default-read_count.ensures (rise.arc + 1) (omega (arith, (rise_low Rounds rise may).0)) parts.0
+    grind (arith, rise_parts c.find_byte.ensures.exact c.split_at.ensures.front c.split_at.ensures.back rise may is)

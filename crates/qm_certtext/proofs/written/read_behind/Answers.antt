@@ -1,4 +1,4 @@
-use Rattle.std.proofs.Common.{arith, refl, [], ◌+◌, ◌-◌, ◌≡◌}
+use Rattle.std.proofs.Common.{rules, arith, refl, [], ◌+◌, ◌-◌, ◌≡◌}
 use Rattle.qm_certtext.proofs.{Chosen.holds_none, Found.behind_fail, Found.read_next, Found.hold_none}
 use Rattle.qm_io.proofs.Cuts.{cut_behind, cut_is, cut_there, whole_tail}
 use Rattle.{def_io.specs.Lines.lines_of, error_laws.proofs.Errors.handed}
@@ -10,12 +10,7 @@ lines-init c =
     let new = c.new-found.ensures in
     let holds = hold_none c.args.rising c.new-found.result new.first new.rounds
     (holds_none new.lengths new.vertices new.sets) in
-    record {
-      order = omega arith;
-      rest = rw none (whole_tail c.args.text.now);
-      low = omega arith;
-      read = rw none (record { said = []; texts = refl; allowed = refl; holds = holds });
-    }
+    search (rules, whole_tail)
 
 pub returns-in_err-take_text-clause-fails : goal.returns-in_err-take_text-clause-fails
 returns-in_err-take_text-clause-fails c =
@@ -43,6 +38,5 @@ lines-preserved c =
       order = omega arith;
       rest = rw next (cut_behind text _ k c.lines.invariant.rest _ _ cut.line cut.rest);
       low = omega arith;
-      read = rw next (read_next c.args.rising (lines_of text) k line c.lines.found there is c.take_text.new.found
-          c.lines.invariant.read c.in_ok-take_text.ensures.taken);
+      read = rw next (read_next _ _ k _ _ there is _ c.lines.invariant.read c.in_ok-take_text.ensures.taken);
     }

@@ -1,4 +1,4 @@
-use Rattle.std.proofs.Common.{◌≡◌, ◌+◌, ◌-◌, arith}
+use Rattle.std.proofs.Common.{rules, ◌≡◌, ◌+◌, ◌-◌, arith}
 use Rattle.def_mesh.specs.HalfEdges.{half_edges}
 use Rattle.qm_grid.proofs.Found.{row_at, row_inside, row_never}
 use Rattle.qm_merge.proofs.corners.side_from.Goals as goal
@@ -13,11 +13,9 @@ loop-n-preserved c =
     let i = c.loop-n.invariant in
     let f = c.is_full.ensures in
     record {
-      at = row_at (half_edges c.args.cut.now.faces) c.args.corner c.loop-n.d c.east-d.result c.loop-n.n i.at
-          c.east-d.ensures.value;
+      at = search (rules, row_at);
       low = c.east-d.ensures.dart;
-      inside = row_inside _ f.laws _ f.full c.args.corner c.loop-n.d c.loop-n.n i.at i.inside
-          (cc (c.next-after.ensures.value, c.is_cut.ensures, c.if-is_cut.false));
+      inside = row_inside _ f.laws _ f.full _ _ _ i.at i.inside (cc (c.if-is_cut.false));
     }
 
 pub unreachable-requires : goal.unreachable-requires

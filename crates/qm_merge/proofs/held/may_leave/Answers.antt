@@ -1,12 +1,10 @@
+use Rattle.std.proofs.Common.{arith}
 use Rattle.std.proofs.{Common.sym, Common.◌∙◌, lemmas.Bool.false≢true}
 use Rattle.qm_merge.proofs.Rejoined.{may_told}
 use Rattle.qm_merge.proofs.held.may_leave.Goals as goal
 
 pub returns-then-marks-place : goal.returns-then-marks-place
-returns-then-marks-place c = (
-  λ y. absurd (false≢true y),
-  λ y. absurd (false≢true (sym ((may_told c.requires.beside c.requires.seam.joinable).0 y).0 ∙ c.if-marks-place.true)),
-)
+returns-then-marks-place c = grind (arith, may_told c.requires.beside c.requires.seam.joinable)
 
 pub returns-then-not-is_end_free : goal.returns-then-not-is_end_free
 returns-then-not-is_end_free c = (

@@ -2,6 +2,5 @@ use Rattle.{std.proofs.Common.◌≡◌, std.proofs.Common.arith, def_mesh.specs
 
 pub returns : Rattle.qm_merge.proofs.links.all_links.Goals.returns
 returns c =
-    let all : c.loop-c.c ≡ darts c.args.cut.now.faces =
-    omega (arith, c.loop-c-test.false, c.loop-c.auto.c-end, c.darts-darts.ensures, c.is_full.ensures.long) in
+    let all : c.loop-c.c ≡ darts c.args.cut.now.faces = omega (arith, c.is_full.ensures.long) in
     record { linked = rw all at c.loop-c.invariant.sides; starts = c.loop-c.invariant.starts }

@@ -1,3 +1,4 @@
+use Rattle.std.proofs.Common.{rules}
 use Rattle.std.proofs.{Common.◌^◌, Common.arith, lemmas.Result.on_ok_weaker}
 use Rattle.qm_merge.proofs.{Rejoined.both_ok, Rejoined.marks_fewer, Rejoined.wait_still, Linked.has_room}
 use Rattle.qm_merge.proofs.{Linked.links_after, Rounds.next_is_corner}
@@ -8,9 +9,8 @@ invariant_of-linked c = record { tied = rw c.new-before.ensures c.requires.tied 
 
 pub join_rounds-requires : goal.join_rounds-requires
 join_rounds-requires c = let f = c.requires.cutting in
-    has_room f.laws f.full c.args.links.now c.requires.tied.linked
-    (rw c.new-before.ensures at c.round_from-near.ensures) (rw c.new-before.ensures at c.round_from-far.ensures)
-    (2 ^ 32) (omega (arith, f.few))
+    has_room f.laws f.full _ c.requires.tied.linked (rw c.new-before.ensures at c.round_from-near.ensures)
+    (rw c.new-before.ensures at c.round_from-far.ensures) _ (omega (arith, f.few))
 
 pub note_from-requires-clause-tied : goal.note_from-requires-clause-tied
 note_from-requires-clause-tied c = let f = c.requires.cutting in
@@ -33,25 +33,19 @@ pub returns-clause-waiting : goal.returns-clause-waiting
 returns-clause-waiting c =
     let one = rw c.new-after.ensures at c.in_ok-note_from.ensures.noted in
     let still = rw c.new-after.ensures at c.in_ok-note_from.ensures.kept in
-    both_ok c.note_from-2.result (λ noted kept. wait_still c.drop_seam.new.cut c.requires.cutting c.args.place
-    c.requires.seam c.drop_seam.ensures.long c.drop_seam.ensures.without
-    (rw c.new-before.ensures at c.round_from-near.ensures) (rw c.new-before.ensures at c.round_from-far.ensures)
-    c.args.names.now c.note_from.new.names c.note_from-2.new.names c.args.links.now.starts.items
-    c.note_from.new.links.starts.items c.note_from-2.new.links.starts.items one (λ r u m name arc named old. still r u m
-    name arc named (rw c.join_rounds.ensures.starts old)) noted kept)
-    (rw c.new-after.ensures at c.note_from-2.ensures.noted) (rw c.new-after.ensures at c.note_from-2.ensures.kept)
+    both_ok c.note_from-2.result (λ noted kept. wait_still _ c.requires.cutting _ c.requires.seam
+    c.drop_seam.ensures.long c.drop_seam.ensures.without (rw c.new-before.ensures at c.round_from-near.ensures)
+    (rw c.new-before.ensures at c.round_from-far.ensures) _ _ _ _ _ _ one (λ r u m name arc named old. still r u m _ arc
+    named (rw c.join_rounds.ensures.starts old)) noted kept) (rw c.new-after.ensures at c.note_from-2.ensures.noted)
+    (rw c.new-after.ensures at c.note_from-2.ensures.kept)
 
 pub returns-clause-below : goal.returns-clause-below
 returns-clause-below c = let one = rw c.new-after.ensures at c.in_ok-note_from.ensures.below in
-    on_ok_weaker c.note_from-2.result (λ below. below (one c.requires.below))
-    (rw c.new-after.ensures at c.note_from-2.ensures.below)
+    search (rules, one c.requires.below)
 
 pub returns-clause-fewer : goal.returns-clause-fewer
-returns-clause-fewer c =
-    on_ok_weaker c.note_from-2.result (λ few. omega (
-      arith,
-      few,
-      c.in_ok-note_from.ensures.few,
-      marks_fewer c.drop_seam.new.cut c.requires.cutting c.args.place c.requires.seam c.drop_seam.ensures.long
-          c.drop_seam.ensures.without,
-    )) c.note_from-2.ensures.few
+returns-clause-fewer c = search (
+  rules,
+  marks_fewer c.drop_seam.new.cut c.requires.cutting c.args.place c.requires.seam
+      c.drop_seam.ensures.long c.drop_seam.ensures.without,
+)

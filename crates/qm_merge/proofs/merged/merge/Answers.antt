@@ -8,10 +8,7 @@ marks_are : (c : After-deref-2) → c.deref.result.now ≡ replicate (darts c.ar
 marks_are c = rw c.deref.ensures.value (search rules)
 
 pub merge_beside-requires-clause-breaks : goal.merge_beside-requires-clause-breaks
-merge_beside-requires-clause-breaks c =
-    let items : c.in_ok-breaks.breaks.items ≡ replicate (vertex_count c.args.mesh.now) false = search rules in
-    cc (c.deref-2.ensures.value, items, none_broken c.args.mesh.now, marks_are c)
+merge_beside-requires-clause-breaks c = search (rules, none_broken)
 
 pub merge_beside-requires-clause-beside : goal.merge_beside-requires-clause-beside
-merge_beside-requires-clause-beside c =
-    rw (marks_are c) (none_beside c.args.mesh.now c.args.graph.now.covered.items c.requires.cut)
+merge_beside-requires-clause-beside c = search (rules, marks_are, none_beside)

@@ -1,4 +1,4 @@
-use Rattle.std.proofs.Common.{refl, false, suc, sym, ◌∙◌, arith}
+use Rattle.std.proofs.Common.{rules, refl, false, suc, sym, ◌∙◌, arith}
 use Rattle.std.proofs.{lemmas.Bool.false≢true, lemmas.Map.Keys.le_from_not_gt}
 use Rattle.def_mesh.specs.{Darts.darts, HalfEdges.half_edges}
 use Rattle.merge_laws.proofs.{Beside.part_reached, Beside.held_law, Beside.turned_may, Decided.name_there}
@@ -44,7 +44,6 @@ loop-name-preserved-in-Continue-branch-3 c =
           step_taken rest was.cutting place found e.long e.without (may_beside c.args.mesh.now c.args.marks.now)
               (may.0 c.if-may_leave.true) (λ r u m name arc free named. omega (
                 arith,
-                p.named,
                 le_from_not_gt c.in-Some.name name
                     (c.in-Some.ensures.least name (was.waiting r u m name arc free named).0),
               )),
@@ -64,29 +63,24 @@ loop-name-preserved-in-Continue-branch-3 c =
 pub loop-name-preserved-else-may_leave : goal.loop-name-preserved-else-may_leave
 loop-name-preserved-else-may_leave c =
     let was = c.loop-name.invariant in
-    let may = may_beside c.args.mesh.now c.args.marks.now c.loop-name.cut in
     let free = rw c.new-now.ensures at c.may_leave.ensures in
     let place = c.in-Some-place_of.ensures in
     assumption (
-      free_still was.cutting.laws was.cutting.full may (turned_may c.args.mesh.now c.args.marks.now c.loop-name.cut)
-          c.loop-name.names c.pop_first.new.self c.loop-name.links.starts.items c.in-Some.name
-          c.in-Some.ensures.updates was.waiting (λ t n arc y named. false≢true (sym c.if-may_leave.false
-          ∙ free.1 (seam_free was.cutting.laws was.cutting.full may (rw c.new-now.ensures at place.found)
-          {t = t} {n = n} (rw place.start arc) (rw place.start y)))),
-      taken_below c.loop-name.names c.pop_first.new.self c.in-Some.name (darts c.args.mesh.now)
-          c.in-Some.ensures.updates was.below,
+      free_still was.cutting.laws was.cutting.full _ (turned_may c.args.mesh.now c.args.marks.now c.loop-name.cut) _ _ _
+          _ c.in-Some.ensures.updates was.waiting (λ t n arc y named. false≢true (sym c.if-may_leave.false
+          ∙ free.1 (seam_free was.cutting.laws was.cutting.full (may_beside c.args.mesh.now _ _)
+          (rw c.new-now.ensures at place.found) {t = t} {n = n} (rw place.start arc) (rw place.start y)))),
+      taken_below _ _ _ _ c.in-Some.ensures.updates was.below,
     )
 
 pub loop-name-preserved : goal.loop-name-preserved
 loop-name-preserved c =
     let was = c.loop-name.invariant in
     assumption (
-      free_still was.cutting.laws was.cutting.full (may_beside c.args.mesh.now c.args.marks.now c.loop-name.cut)
-          (turned_may c.args.mesh.now c.args.marks.now c.loop-name.cut) c.loop-name.names c.pop_first.new.self
-          c.loop-name.links.starts.items c.in-Some.name c.in-Some.ensures.updates was.waiting
+      free_still was.cutting.laws was.cutting.full _ (turned_may c.args.mesh.now c.args.marks.now c.loop-name.cut) _ _ _
+          _ c.in-Some.ensures.updates was.waiting
           (λ t n arc free. (rw c.new-now.ensures at c.in_default-place_of.ensures.none) t n arc),
-      taken_below c.loop-name.names c.pop_first.new.self c.in-Some.name (darts c.args.mesh.now)
-          c.in-Some.ensures.updates was.below,
+      taken_below _ _ _ _ c.in-Some.ensures.updates was.below,
     )
 
 pub returns-clause-merged : goal.returns-clause-merged
@@ -94,14 +88,9 @@ returns-clause-merged c = record {
   steps = c.loop-name.invariant.reached.0;
   reached = c.loop-name.invariant.reached.1;
   merged = λ s t n arc free.
-      let m = name_there (half_edges c.args.mesh.now) s t n arc.glued.near.some in
-      none_waits c.loop-name.names.keys m.0 (λ some. false≢true (c.in_default.ensures.variant.1 some))
-      (c.loop-name.invariant.waiting s t n m.0 arc free m.1).0;
+      let m = name_there _ s t n arc.glued.near.some in
+      search (rules, none_waits c.loop-name.names.keys m.0, c.loop-name.invariant.waiting s t n m.0 arc free m.1);
 }
 
 pub returns-clause-part : goal.returns-clause-part
-returns-clause-part c = let f = c.requires.cutting in
-    λ d on. part_reached c.args.mesh.now (may_beside c.args.mesh.now c.args.marks.now) f.laws c.args.cut.now
-    c.loop-name.cut c.loop-name.invariant.reached.0 (record { long = f.long; full = f.full })
-    c.loop-name.invariant.reached.1 d
-    (omega (arith, mark_low c.loop-name.cut d on, c.loop-name.invariant.cutting.long)) on
+returns-clause-part c = search (rules, part_reached, mark_low)

@@ -1,4 +1,4 @@
-use Rattle.std.proofs.Common.{◌≡◌, Some, sym, ◌∙◌, arith, true, true≢false}
+use Rattle.std.proofs.Common.{rules, ◌≡◌, Some, sym, ◌∙◌, arith, true, true≢false}
 use Rattle.qm_grid.proofs.Found.{row_at, row_inside, row_never}
 use Rattle.qm_merge.proofs.Rounds.{glued_more, name_more, glued_done, name_done, no_twin, leads_there}
 use Rattle.{std.proofs.lemmas.Bool.false≢true, def_mesh.specs.Darts.next_of, def_mesh.specs.Darts.twin_of}
@@ -22,11 +22,9 @@ pub returns-then-not-is_cut-clause-none : goal.returns-then-not-is_cut-clause-no
 returns-then-not-is_cut-clause-none c =
     let i = c.loop-n.invariant in
     let f = c.is_full.ensures in
-    let on : is_on c.args.cut.now.marks (next_of c.loop-n.d) ≡ true =
-    cc (c.next.ensures.value, c.is_cut.ensures, c.if-is_cut.true) in
-    λ t m g. true≢false (sym (far_corner f.laws f.full c.requires.corner i.at i.inside g
-    (sym c.in-Some.ensures.value) on)
-    ∙ (cc (c.prev.ensures.value, c.is_cut-then-is_cut.ensures, c.if-not-is_cut.true)))
+    let on : is_on c.args.cut.now.marks (next_of c.loop-n.d) ≡ true = cc (c.if-is_cut.true) in
+    λ t m g. true≢false (sym (far_corner f.laws f.full c.requires.corner i.at i.inside g (sym c.in-Some.ensures.value)
+    on) ∙ (cc (c.if-not-is_cut.true)))
 
 pub returns-then-is_cut-clause-found : goal.returns-then-is_cut-clause-found
 returns-then-is_cut-clause-found c =
@@ -35,11 +33,8 @@ returns-then-is_cut-clause-found c =
     let tw : twin_of c.args.cut.now.faces c.loop-n.d ≡ Some c.in-Some.twin = sym c.in-Some.ensures.value in
     let leads = c.leads_on.ensures.0 c.if-not-leads_on.false in
     record {
-      glued = glued_done f.laws f.full c.requires.corner i.at i.inside tw leads i.glued
-          (cc (c.next.ensures.value, c.is_cut.ensures, c.if-is_cut.true))
-          (cc (c.prev.ensures.value, c.is_cut-then-is_cut.ensures, c.if-not-is_cut.false));
-      named = rw (c.min-name.ensures, c.min.ensures)
-          (name_done f.laws f.full c.requires.corner i.at i.inside tw leads i.named);
+      glued = grind (arith, glued_done f.laws f.full c.requires.corner i.at i.inside tw leads i.glued);
+      named = grind (arith, name_done f.laws f.full c.requires.corner i.at i.inside tw leads i.named);
     }
 
 pub loop-n-preserved : goal.loop-n-preserved
@@ -49,12 +44,10 @@ loop-n-preserved c =
     let tw : twin_of c.args.cut.now.faces c.loop-n.d ≡ Some c.in-Some.twin = sym c.in-Some.ensures.value in
     let leads = c.leads_on.ensures.0 c.if-not-leads_on.false in
     record {
-      at = row_at (half_edges c.args.cut.now.faces) c.args.s c.loop-n.d c.east-d.result c.loop-n.n i.at
-          c.east-d.ensures.value;
+      at = search (rules, row_at);
       low = c.east-d.ensures.dart;
-      inside = row_inside _ f.laws _ f.full c.args.s c.loop-n.d c.loop-n.n i.at i.inside
-          (cc (c.next.ensures.value, c.is_cut.ensures, c.if-is_cut.false));
-      glued = glued_more (is_on c.args.cut.now.marks) i.at tw leads i.glued;
+      inside = row_inside _ f.laws _ f.full _ _ _ i.at i.inside (cc (c.if-is_cut.false));
+      glued = glued_more _ i.at tw leads i.glued;
       named = rw (c.min-name.ensures, c.min.ensures) (name_more (is_on c.args.cut.now.marks) i.at tw leads i.named);
     }
 

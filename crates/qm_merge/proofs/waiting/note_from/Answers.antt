@@ -4,8 +4,7 @@ use Rattle.qm_merge.proofs.waiting.note_from.Goals as goal
 
 pub index_mut-requires : goal.index_mut-requires
 index_mut-requires c = let f = c.is_full.ensures in
-    let low = seam_low f.laws f.full c.in-Some.ensures.found in
-    omega (arith, low, c.requires.tied.starts.0, c.args.links.now.starts.ok.0)
+    grind (arith, seam_low f.laws f.full c.in-Some.ensures.found)
 
 pub returns-in_ok-insert : goal.returns-in_ok-insert
 returns-in_ok-insert c =

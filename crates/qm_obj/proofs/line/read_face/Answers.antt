@@ -9,8 +9,7 @@ pub overflow_add-count : goal.overflow_add-count
 overflow_add-count c = search (rules, words_short)
 
 pub words-preserved : goal.words-preserved
-words-preserved c = rw c.put.ensures (read_more c.words.invariant _ _ c.next_word.ensures.first c.is_empty.ensures
-    c.if-is_empty.false (sym c.read_corner.ensures ∙ c.in-Some.is))
+words-preserved c = grind (arith, read_more c.words.invariant)
 
 pub returns-in_default : goal.returns-in_default
 returns-in_default c =

@@ -5,15 +5,12 @@ use Rattle.{qm_obj.proofs.SoupLemmas.kept_mark, qm_obj.proofs.SoupLemmas.kept_sk
 
 pub loop-k-preserved : Rattle.qm_obj.proofs.used.keep_marked.Goals.loop-k-preserved
 loop-k-preserved c =
-    let pushed : c.push.new.self.items ≡ c.loop-k.vertices.items ++ length c.loop-k.names.items ∷ [] =
-    grind (arith, common_steps) in
+    let pushed : c.push.new.self.items ≡ c.loop-k.vertices.items ++ length c.loop-k.names.items ∷ [] = grind arith in
     let before = c.loop-k.invariant.kept in
     let count = c.loop-k.invariant.count in
     record {
       kept = elim c.if-marks-k.branch [
-        | then-marks-k+in_ok-keep_position w ↦ let kept = w.in_ok-keep_position.ensures in
-            rw (w.positions-is, w.names-is, kept.positions, kept.names)
-            (kept_mark c.loop-k-test.true w.if-marks-k.true before)
+        | then-marks-k+in_ok-keep_position w ↦ grind (arith, kept_mark c.loop-k-test.true w.if-marks-k.true before)
         | else-marks-k w ↦ rw (w.positions-is, w.names-is) (kept_skip w.if-marks-k.false before)
       ];
       count = search rules;

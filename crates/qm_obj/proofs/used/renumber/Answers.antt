@@ -11,12 +11,8 @@ pub new_corners-requires : goal.new_corners-requires
 new_corners-requires c = rw (same (goal.at.new_corners-requires c).After-index) (search (rules, passes_at))
 
 pub loop-f-preserved : goal.loop-f-preserved
-loop-f-preserved c =
-    let there : c.loop-f.f < length c.args.faces.now.items = omega arith in
-    record {
-      size = length-set c.loop-f.faces.items c.loop-f.f c.new_corners.result ∙ c.loop-f.invariant.size;
-      prefix = mapped_more _ _ _ _ _ _ there c.loop-f.invariant.size
-          (c.new_corners.ensures ∙ ap (map (λ corner. get_or c.args.vertices.now (corner - 1) 0))
-          (same (goal.at.loop-f-preserved c).After-index)) c.loop-f.invariant.prefix;
-      back = search (rules, back_more);
-    }
+loop-f-preserved c = record {
+  size = length-set _ _ _ ∙ c.loop-f.invariant.size;
+  prefix = search (rules, mapped_more, same (goal.at.loop-f-preserved c).After-index);
+  back = search (rules, back_more);
+}

@@ -1,4 +1,4 @@
-use Rattle.std.proofs.Common.{ap, arith, length, sym, ◌<◌, ◌∙◌}
+use Rattle.std.proofs.Common.{rules, ap, arith, length, sym, ◌<◌, ◌∙◌}
 use Rattle.{std.proofs.lemmas.Bool.eqb-false, qm_certtext.specs.Parts.lists_in_parts}
 use Rattle.{qm_certtext.specs.declared.parts.Found.Found, qm_certtext.proofs.Chosen.holds_none}
 use Rattle.{qm_certtext.proofs.Chosen.ends_some, std.specs.Vec.vec_len, def_certtext.specs.declared.certs.Round.Round}
@@ -12,10 +12,7 @@ returns c =
       rises = c.replace-rises.new.dest;
     } in
     let round : Round = record { cert = c.in_ok-cert.cert; rises = c.replace-rises.result } in
-    let long = eqb-false (vec_len c.args.self.now.rises) 0 (sym c.if-is_empty.ensures) in
+    let long = eqb-false _ 0 (sym c.if-is_empty.ensures) in
     let some : 0 < length c.args.self.now.rises.items = omega arith in
-    ends_some c.args.self.now new round some c.in_ok-push.ensures.items
-    (ap (λ rises. rises.items) c.replace-rises.ensures.after ∙ c.new-2.ensures.items)
-    (rw c.replace-last.ensures.after (holds_none c.new.ensures.lengths c.new.ensures.vertices c.new.ensures.sets))
-    (c.in_ok-cert.ensures ∙ ap lists_in_parts c.replace-last.ensures.value)
+    ends_some _ _ _ some c.in_ok-push.ensures.items (search rules) (search rules) (search rules)
     (ap (λ rises. rises.items) c.replace-rises.ensures.value)

@@ -1,3 +1,4 @@
+use Rattle.std.proofs.Common.{rules}
 use Rattle.std.proofs.{Common.Some, Common.refl, Common.sym, Common.ap, lemmas.Bool.false≢true}
 use Rattle.qm_certtext.proofs.Chosen.{added_ok, holds_none, takes_both, takes_other, takes_third}
 use Rattle.qm_certtext.specs.{declared.parts.Found.Found, declared.parts.Parts.Parts}
@@ -9,9 +10,8 @@ returns-then-starts_third c =
     let new : Found = record old { first = Some c.replace.result; last = c.replace.new.dest } in
     let e = c.new.ensures in
     let first = ap (λ (p : Parts). Some p) c.replace.ensures.value in
-    takes_both c.args.rising old new c.args.line (λ is. false≢true (rw is at c.if-eq.ensures))
-    (takes_third old new c.args.line (sym c.if-starts_third.ensures) first
-    (rw c.replace.ensures.after (holds_none e.lengths e.vertices e.sets)))
+    takes_both _ _ _ _ (λ is. false≢true (rw is at c.if-eq.ensures)) (takes_third old new c.args.line
+    (sym c.if-starts_third.ensures) first (search rules))
 
 pub returns : goal.returns
 returns c =

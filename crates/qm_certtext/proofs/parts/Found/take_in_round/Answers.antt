@@ -6,6 +6,5 @@ returns c =
     let ended = c.end_round.new.self in
     let new : Found = record ended { last = c.take.new.self } in
     let e = c.take.ensures in
-    added_ok c.take.result ended.last c.take.new.self c.args.line e.lengths e.vertices e.vertex_ups e.sets e.set_ups
-    (λ adds. takes_plain c.args.self.now ended new c.args.line (no_rise_line c.args.line c.in_default.not-Rise)
-    c.in_ok-end_round.ensures refl refl adds)
+    added_ok _ _ _ _ e.lengths e.vertices e.vertex_ups e.sets e.set_ups (λ adds. takes_plain _ _ new _
+    (no_rise_line c.args.line c.in_default.not-Rise) c.in_ok-end_round.ensures refl refl adds)

@@ -1,4 +1,4 @@
-use Rattle.std.proofs.Common.{◌≡◌, sym, ◌∙◌, refl, true, true≢false, arith}
+use Rattle.std.proofs.Common.{rules, ◌≡◌, sym, ◌∙◌, refl, true, true≢false, arith}
 use Rattle.def_mesh.specs.Darts.{next_of, prev_of}
 use Rattle.qm_merge.proofs.Linked.{contrary, far_corner, far_is, same_size, read_at}
 use Rattle.{qm_merge.proofs.Rounds.next_is_corner, qm_merge.proofs.Rounds.no_twin, def_cut.specs.FullCut.is_on}
@@ -28,8 +28,7 @@ round_from-far-requires c =
 pub index-requires : goal.index-requires
 index-requires c =
     let f = c.is_full.ensures in
-    let low = next_is_corner f.laws f.full c.round_from-far.ensures.fourth in
-    omega (arith, low.0, c.args.self.now.tied.linked.longs, c.args.self.now.links.now.long.ok.0)
+    grind (arith, next_is_corner f.laws f.full c.round_from-far.ensures.fourth)
 
 pub returns-then-index : goal.returns-then-index
 returns-then-index c =
@@ -37,20 +36,16 @@ returns-then-index c =
     let round = rw c.next-end.ensures.value at c.round_from-far.ensures in
     let links = c.args.self.now.links.now in
     let fourth = next_is_corner f.laws f.full c.round_from-far.ensures.fourth in
-    let far = read_at links.long.items c.round_from-far.result.fourth c.index.ensures
-    (omega (arith, c.args.self.now.tied.linked.longs, fourth.0)) in
-    let near = read_at links.long.items c.args.s c.index-2.ensures
-    (omega (arith, c.args.self.now.tied.linked.longs, c.requires.0)) in
+    let far = read_at links.long.items _ c.index.ensures (omega (arith, fourth.0)) in
+    let near = read_at links.long.items _ c.index-2.ensures (omega (arith, c.requires.0)) in
     λ t n glued. absurd (c.if-index.true (far ∙ (same_size f.laws f.full glued (sym c.in-Some.ensures.value) round links
     c.args.self.now.tied.linked ∙ sym near)))
 
 pub is_around-requires-clause-other : goal.is_around-requires-clause-other
-is_around-requires-clause-other c = let f = c.is_full.ensures in
-    next_is_corner f.laws f.full c.round_from-far.ensures.fourth
+is_around-requires-clause-other c = search (rules, next_is_corner)
 
 pub returns : goal.returns
 returns c =
     let f = c.is_full.ensures in
     let round = rw c.next-end.ensures.value at c.round_from-far.ensures in
-    λ t n glued. contrary c.is_around.result
-    (rw (far_is f.laws f.full glued (sym c.in-Some.ensures.value) round) at c.is_around.ensures)
+    λ t n glued. contrary _ (rw (far_is f.laws f.full glued (sym c.in-Some.ensures.value) round) at c.is_around.ensures)

@@ -17,8 +17,7 @@ returns-then-is_empty-clause-took c =
 
 pub returns-then-size-gt-MAX_LINE-clause-refused : goal.returns-then-size-gt-MAX_LINE-clause-refused
 returns-then-size-gt-MAX_LINE-clause-refused c = λ _.
-    let old = c.args.self.now in
-    rw c.too_long.ensures (long_line (sound_of old) c.args.line.now (search rules) (omega arith))
+    rw c.too_long.ensures (long_line (sound_of c.args.self.now) c.args.line.now (search rules) (omega arith))
 
 pub returns-in_err-read-clause-refused : goal.returns-in_err-read-clause-refused
 returns-in_err-read-clause-refused c =

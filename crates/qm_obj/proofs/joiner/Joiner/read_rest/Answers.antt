@@ -1,3 +1,4 @@
+use Rattle.std.proofs.Common.{arith}
 use Rattle.qm_obj.proofs.FeedLemmas.{is_nothing, is_something, last_refused, last_same, sound_of}
 use Rattle.std.proofs.{lemmas.List.append-nil, Common.rules, Common.◌∙◌, Common.[], Common.ap}
 use Rattle.{error_laws.proofs.Errors.handed, def_text.specs.Text.soup_of, def_feed.specs.Kept.kept_readings}
@@ -5,17 +6,10 @@ use Rattle.{qm_obj.specs.Views.kept_of}
 use Rattle.qm_obj.proofs.joiner.Joiner.read_rest.Goals as goal
 
 pub returns-then-is_empty-clause-same : goal.returns-then-is_empty-clause-same
-returns-then-is_empty-clause-same c = rw (is_nothing c.if-is_empty.ensures
-    c.args.self.now.joined.ok.0) (ap soup_of (append-nil (kept_readings (kept_of c.args.self.now []))))
+returns-then-is_empty-clause-same c = search (rules, is_nothing c.if-is_empty.ensures c.args.self.now.joined.ok.0)
 
 pub returns-in_err-take-clause-refused : goal.returns-in_err-take-clause-refused
-returns-in_err-take-clause-refused c =
-    let joined = c.args.self.now.joined in
-    handed _ _ _ c.from_residual.ensures.1 (λ other. last_refused (sound_of c.args.self.now)
-    (is_something _ c.if-is_empty.ensures joined.ok.0) (search rules))
+returns-in_err-take-clause-refused c = grind (arith, last_refused (sound_of c.args.self.now))
 
 pub returns-clause-same : goal.returns-clause-same
-returns-clause-same c =
-    let joined = c.args.self.now.joined in
-    last_same (sound_of c.args.self.now) (is_something _ c.if-is_empty.ensures joined.ok.0)
-    (rw (c.len.ensures ∙ joined.ok.0, c.deref.ensures.value) at c.in_ok-take.ensures.kept)
+returns-clause-same c = search (rules, last_same (sound_of c.args.self.now))

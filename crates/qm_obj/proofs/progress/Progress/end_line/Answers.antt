@@ -13,5 +13,4 @@ returns-in_err-keep-clause-refused c = handed _ _ _ c.from_residual.ensures.1 (Î
     refused_before (kept_at c.args.self.now) c.args.prefix.now (10 âˆ· []) _ (c.in_err-keep.ensures.refused other))
 
 pub returns : goal.returns
-returns c = takes_behind _ _ c.end_tail.result c.in_ok-keep.ensures.took c.end_tail.ensures.took
-    c.end_tail.ensures.refused
+returns c = takes_behind _ _ _ c.in_ok-keep.ensures.took c.end_tail.ensures.took c.end_tail.ensures.refused
