@@ -13,7 +13,7 @@ use Rattle.def_written.specs.Places.{Coordinate, on_the_way, ONE, parameter, par
 use Rattle.def_written.specs.Places.{cell_at, blend, place_of, ArcSpacing, Step}
 use Rattle.def_written.specs.Edges.{on_arc, Edge, IsEdge, edge_start, edge_end, HasEnds, IsUndoubled}
 use Rattle.def_written.specs.{NewFaces.dart_start, Spacings.IsSpacing, Laws.BetweenLaw, Numbers.vertex_number}
-use Rattle.written_laws.proofs.{Spacings.count_rises, Sides.IsOn, Sides.place_on, Sides.long_at, Rims.wide_some}
+use Rattle.written_laws.proofs.{Sides.reach_low, Sides.IsOn, Sides.place_on, Rims.wide_some}
 use Rattle.written_laws.proofs.{Rims.high_some, Borders.from_is, Courses.edge_points, EdgeNumbers.number_same}
 use Rattle.written_laws.proofs.{EdgeNumbers.edge_number, EdgeNumbers.edge_same, Manifold.IsSimple}
 
@@ -104,35 +104,27 @@ div_most n k d some le = search rules
 module _ {l : Gluing} {old new : Lengths} {spacing : ArcSpacing} (laid : IsSurface l) (o_len : AreLengths l old)
     (n_len : AreLengths l new) (spaced : IsSpacing l old new spacing) where
   arc_most : (a : ℕ) (forward : Bool) (k : ℕ) → a < l.arcs → k ≤ new a → spacing.parameter_of a forward k ≤ ONE * old a
-  arc_most a forward k a_low le = elim (cases_eq k (new a)) [
-    | inl e ↦ omega (arith, ap (spacing.parameter_of a forward) e, spaced.ends a forward a_low)
-    | inr ne ↦ omega (arith, spaced.below a forward k a_low (omega (arith, le, ne)))
-  ]
+  arc_most a forward k a_low le =
+      search (rules, cases_eq k (new a), spaced.ends a forward, spaced.below a forward k)
 
   -- Parameters of places of a side are at most that of its end.
   sides_most : (p : ℕ) (s : Way) (t : ℕ) → p < l.patches → t < size l new p s → (parameter l old new spacing p s t ≤ ONE
       * size l old p s) × (parameter_back l old new spacing p s t ≤ ONE * size l old p s)
   sides_most p s t p_low less =
       let on : IsOn l new p s t (use_over l new p s t) (offset_at l new p s t) = place_on l new p s t p_low less in
-      let upto =
-      count_rises (long_at l old p s) (suc (use_over l new p s t)) (l.many p s) (omega (arith, on.is_slot.low)) in
+      let upto = reach_low l old _ on.is_slot in
       let one : use_over l new p s t + 1 ≡ suc (use_over l new p s t) = omega arith in
-      let reaches = ap (reach l old p s) one in
       let used : SideArc = l.use_at p s (use_over l new p s t) in
-      let low = laid.paved.arc_low (record { patch = p; side = s; at = use_over l new p s t }) on.is_slot in
+      let low = laid.paved.arc_low _ on.is_slot in
       let rest = arc_most used.arc (not used.forward) (new used.arc - offset_at l new p s t) low (omega arith) in
-      (omega (arith, upto), omega (arith, upto, reaches, rest))
+      (omega (arith, upto), omega (arith, upto, ap (reach l old p s) one, rest))
 
   -- A mean of parameters is no greater.
   mean_most : (a b m h j : ℕ) → 0 < h → j ≤ h → a ≤ m → b ≤ m → (a * (h - j) + b * j) / h ≤ m
   mean_most a b m h j some le a_le b_le =
-      let by_parts : (c d k : ℕ) → c ≤ m * k → d ≤ m * j → m * (k + j) ≡ m * h → c + d ≤ m * h =
-      λ c d k c_le d_le same. omega arith in
-      let e : a * (h - j) ≤ m * (h - j) = mul-le a (h - j) m (h - j) a_le (omega arith) in
-      let f : b * j ≤ m * j = mul-le b j m j b_le (omega arith) in
-      let s : h - j + j ≡ h = omega arith in
-      let g : m * (h - j + j) ≡ m * h = ap (λ n. m * n) s in
-      div_most _ m h some (by_parts (a * (h - j)) (b * j) (h - j) e f g)
+      let by_parts : (k : ℕ) → k + j ≡ h → a * k + b * j ≤ m * h =
+      λ k s. omega (arith, mul-le a k m k a_le (omega arith), mul-le b j m j b_le (omega arith), ap (λ n. m * n) s) in
+      div_most _ m h some (by_parts (h - j) (omega arith))
 
   place_within : (at : Coordinate) (least greatest : ℤ) → ((a : Point) → IsPoint l old a → (least ≤ℤ at a)
       × (at a ≤ℤ greatest)) → (a : Point) → IsPoint l new a → (least ≤ℤ place_of l old new spacing at a)
@@ -180,43 +172,28 @@ module _ (l : Gluing) (x : Lengths) where
     where
       one : (e f : Edge) → IsEdge l x e → IsEdge l x f
           → HasEnds l x f (vertex_number l x (edge_start l x e)) (vertex_number l x (edge_end l x e)) → e ≡ f
-      one e f is_e is_f ends = elim (cases_eq (edge_number l x e) (edge_number l x f)) [
-        | inl s ↦ edge_same l x e f is_e is_f s
-        | inr apart ↦
-            let differ : e ≢ f = λ s. apart (ap (edge_number l x) s) in
-            elim (cases_lt (vertex_number l x (edge_end l x e)) (vertex_number l x (edge_start l x e))) [
-              | inl less ↦ absurd (undoubled _ _ (
-                omega arith,
-                inr (e, f, is_e, is_f, differ, inr (refl, refl), elim ends [ inl s ↦ inr s | inr s ↦ inl s ]),
-              ))
-              | inr le ↦ absurd (undoubled _ _ (le, inr (e, f, is_e, is_f, differ, inl (refl, refl), ends)))
-            ]
-      ]
+      one e f is_e is_f ends =
+          let pair = λ (u v : ℕ) (le : u ≤ v) (apart : e ≢ f) (s : HasEnds l x e u v) (t : HasEnds l x f u v).
+          undoubled u v (le, inr (e, f, is_e, is_f, apart, s, t)) in
+          let a = vertex_number l x (edge_start l x e) in
+          let b = vertex_number l x (edge_end l x e) in
+          let same = cases_eq (edge_number l x e) (edge_number l x f) in
+          search (rules, same, edge_same, pair a b, pair b a, cases_lt b a)
 
   module _ (laid : IsSurface l) (len : AreLengths l x) where
     pub undoubled_from : IsSimple l x → IsUndoubled l x
     undoubled_from simple u v doubled = elim doubled.1 [
-      | inl h ↦ looped h.1.0 h.1.1 h.1.2
-      | inr h ↦ h.4 (paired h.0 h.1 (edge_points l x laid len _ h.2) (edge_points l x laid len _ h.3) h.2 h.3 h.5 h.6)
+      | inl (same, (e, is, ends)) ↦ absurd (search (rules, simple.no_loop, number_same, edge_points))
+      | inr (e, f, is_e, is_f, apart, s, t) ↦
+          let p = edge_points l x laid len e is_e in
+          let q = edge_points l x laid len f is_f in
+          search (
+            rules,
+            simple.same e f is_e is_f,
+            simple.crossed e f is_e is_f,
+            number_same l x _ _ p.0 q.0,
+            number_same l x _ _ p.0 q.1,
+            number_same l x _ _ p.1 q.0,
+            number_same l x _ _ p.1 q.1,
+          )
     ]
-      where
-        same : {a b : Point} {k : ℕ} → IsPoint l x a → IsPoint l x b → vertex_number l x a ≡ k → vertex_number l x b ≡ k
-            → a ≡ b
-        same is_a is_b s t = number_same l x _ _ is_a is_b (s ∙ sym t)
-
-        looped : (e : Edge) → IsEdge l x e → HasEnds l x e u u → ⊥
-        looped e is ends =
-            let p = edge_points l x laid len e is in
-            simple.no_loop e is (elim ends [ inl s ↦ same p.0 p.1 s.0 s.1 | inr s ↦ same p.0 p.1 s.0 s.1 ])
-
-        paired : (e f : Edge) → IsPoint l x (edge_start l x e) × IsPoint l x (edge_end l x e)
-            → IsPoint l x (edge_start l x f) × IsPoint l x (edge_end l x f) → IsEdge l x e → IsEdge l x f
-            → HasEnds l x e u v → HasEnds l x f u v → e ≡ f
-        paired e f p q is_e is_f (inl s) (inl t) =
-            simple.same e f is_e is_f (same p.0 q.0 s.0 t.0) (same p.1 q.1 s.1 t.1)
-        paired e f p q is_e is_f (inl s) (inr t) =
-            simple.crossed e f is_e is_f (same p.0 q.1 s.0 t.1) (same p.1 q.0 s.1 t.0)
-        paired e f p q is_e is_f (inr s) (inl t) =
-            simple.crossed e f is_e is_f (same p.0 q.1 s.0 t.1) (same p.1 q.0 s.1 t.0)
-        paired e f p q is_e is_f (inr s) (inr t) =
-            simple.same e f is_e is_f (same p.0 q.0 s.0 t.0) (same p.1 q.1 s.1 t.1)

@@ -1,5 +1,5 @@
 -- Border darts by the slots whose arcs they lie on, and the darts at a place of an arc.
-use Rattle.std.proofs.Common.{rules, ◌≡◌, ◌≢◌, ◌⊎◌, ℕ, ◌+◌, ◌-◌, ◌<◌, ◌≤◌, Bool, true, false, cond, refl, sym, ◌∙◌, ap}
+use Rattle.std.proofs.Common.{rules, ◌≡◌, ◌≢◌, ◌⊎◌, ℕ, ◌+◌, ◌-◌, ◌<◌, ◌≤◌, Bool, true, false, refl, ◌∙◌}
 use Rattle.def_layout.specs.Gluings.{Way, side_before, Gluing, Slot, IsSlot, AreReverse, use_of, slot_before, south}
 use Rattle.def_layout.specs.Gluings.{east, north, west}
 use Rattle.def_layout.specs.{declared.tmesh.SideArc.SideArc, Surfaces.HasWholeSides, Surfaces.IsSurface}
@@ -8,7 +8,7 @@ use Rattle.def_layout.specs.Cells.{CellDart, IsDart, next, dart_along, slot_dart
 use Rattle.def_written.specs.Points.{inside, IsPoint, use_point, use_over, offset_at, side_point, Point, point}
 use Rattle.def_written.specs.Edges.{Edge, on_arc, flat, steep, IsEdge, edge_start, edge_end}
 use Rattle.written_laws.proofs.Sides.{slot, use_sort, place_on, side_in, side_upto, reach_low}
-use Rattle.written_laws.proofs.{Rims.next_prev, Rims.point_inside, NewDarts.next_is, NewDarts.prev_is}
+use Rattle.written_laws.proofs.{Rims.point_inside, NewDarts.prev_is}
 use Rattle.written_laws.proofs.Rims.{column_of, row_of, IsWithin, rim_is, rim_from, rim_to, on_rim, IsInner, inner_at}
 use Rattle.{std.proofs.Common.inl, std.proofs.Common.inr, std.proofs.Common.arith}
 use Rattle.{def_written.specs.NewFaces.dart_start, def_written.specs.NewFaces.dart_end}
@@ -34,18 +34,16 @@ module _ (l : Gluing) (x : Lengths) where
   pub side_not_inside : (q : ℕ) (s : Way) (t p i j : ℕ) → side_point l x q s t ≢ inside p i j
   side_not_inside q s t p i j e = use_not_inside (l.use_at q s (use_over l x q s t)) (offset_at l x q s t) p i j e
 
-  -- A dart on the border of a patch, o after the beginning of a slot's arc.
-  pub record IsOnBorder (d : CellDart) (w : Slot) (o : ℕ) : Type 0 where
-    pub is_slot : IsSlot l w
-    pub low : o < x (use_of l w).arc
-    pub dart : d ≡ slot_dart l x w o
-
   -- A dart leaves place o of a slot's arc: it is one of the two there.
   pub record IsSpot (d : CellDart) (w : Slot) (o : ℕ) (b : Bool) : Type 0 where
     pub is_slot : IsSlot l w
     pub low : o < x (use_of l w).arc
     pub dart : d ≡ spot_dart l x w o b
     pub behind : b ≡ true → 0 < place_at l x w o
+
+  -- A dart on the border of a patch, o after the beginning of a slot's arc.
+  abbrev pub IsOnBorder : (d : CellDart) (w : Slot) (o : ℕ) → Type 0
+  IsOnBorder d w o = IsSpot d w o false
 
   module _ (paved : HasWholeSides l) (len : AreLengths l x) where
     -- The border dart o after the beginning of a slot's arc.
@@ -63,9 +61,7 @@ module _ (l : Gluing) (x : Lengths) where
     pub sees : {d : CellDart} → IsDart l x d → IsWithin l x d ⊎ ((w : Slot) × (o : ℕ) × IsOnBorder d w o)
     sees {d} is = elim (on_rim paved len d.patch d.i d.j d.way is) [
       | inl i ↦ inl i
-      | inr (s, t, less, e) ↦
-          let on = place_on l x d.patch s t is.patch_low less in
-          search rules
+      | inr (s, t, less, e) ↦ let on = place_on l x d.patch s t is.patch_low less in search rules
     ]
 
     -- and leaves a grid point inside its patch or a place of an arc.
@@ -76,14 +72,11 @@ module _ (l : Gluing) (x : Lengths) where
       | inl i ↦ elim (on_rim paved len d.patch d.i d.j (side_before d.way) (prev_is l x d is)) [
         | inl before ↦ inl (inner_at paved len d.patch d.i d.j d.way i before)
         | inr (s, t, less, e) ↦
-            let here : d ≡ next (dart_along l x d.patch s t) = sym (next_prev d) ∙ ap next e in
             let on = place_on l x d.patch s (t + 1) is.patch_low (search rules) in
             let back : t ≡ reach l x d.patch s (use_over l x d.patch s (t + 1)) + offset_at l x d.patch s (t + 1) - 1 =
             omega (arith, on.place) in
-            let dart = here ∙ ap (λ n. next (dart_along l x d.patch s n)) back in
             let b : IsSpot d (slot d.patch s (use_over l x d.patch s (t + 1))) (offset_at l x d.patch s (t + 1)) true =
-            record { is_slot = on.is_slot; low = on.inside; dart = dart; behind = λ e. omega (arith, on.place) } in
-            inr (_, _, _, b)
+            search rules in inr (_, _, _, b)
       ]
     ]
 
@@ -100,22 +93,17 @@ module _ (l : Gluing) (x : Lengths) where
     -- The darts at a place leave it.
     pub spot_from : {d : CellDart} {w : Slot} {o : ℕ} {b : Bool} → IsSpot d w o b
         → dart_start l x d ≡ use_point l x (use_of l w) o
-    spot_from {d} {w} {o} {b} s = ap (dart_start l x) s.dart ∙ (elim b as (λ b. (b ≡ true → 0 < place_at l x w o)
-        → dart_start l x (spot_dart l x w o b) ≡ use_point l x (use_of l w) o) [
-          | false ↦ λ some. at_from w o s.is_slot s.low
-          | true ↦ λ some. let one : place_at l x w o - 1 + 1 ≡ place_at l x w o = omega (arith, some refl) in
-              rim_to l x laid len _ _ _ s.is_slot.patch_low (omega (arith, at_low laid.paved len o s.is_slot s.low))
-              ∙ ap (side_point l x w.patch w.side) one ∙ side_in l x o s.is_slot s.low
-        ]) s.behind
+    spot_from {d} {w} {o} {b} s =
+        let low = at_low laid.paved len o s.is_slot s.low in
+        let to = rim_to l x laid len w.patch w.side (place_at l x w o - 1) in
+        search (rules, s.behind, at_from w o, to, side_in l x o s.is_slot s.low)
 
     pub spot_is : {w : Slot} {o : ℕ} (b : Bool) → IsSlot l w → o < x (use_of l w).arc → (b ≡ true → 0 < place_at l x w
         o) → IsDart l x (spot_dart l x w o b) × IsSpot (spot_dart l x w o b) w o b
     spot_is {w} {o} b is less some =
-        let here : IsDart l x (spot_dart l x w o b) = elim b as (λ b. IsDart l x (spot_dart l x w o b)) [
-          | false ↦ at_is laid.paved len w o is less
-          | true ↦ next_is l x _ (rim_is laid.paved len w.patch w.side (place_at l x w o - 1) is.patch_low
-              (omega (arith, at_low laid.paved len o is less)))
-        ] in (here, record { is_slot = is; low = less; dart = refl; behind = some })
+        let low = at_low laid.paved len o is less in
+        let here : IsDart l x (spot_dart l x w o b) = search (rules, rim_is, at_is laid.paved len w o) in
+        (here, record { is_slot = is; low = less; dart = refl; behind = some })
 
     pub inner_from : (d : CellDart) → IsInner laid.paved len d.patch (column_of d) (row_of d)
         → dart_start l x d ≡ inside d.patch (column_of d) (row_of d)
@@ -164,8 +152,7 @@ pub one_way : (i j : ℕ) (w v : Way) → 0 < i → 0 < j → tip_column i w ≡
 one_way i j w v h1 h2 h3 h4 = search rules
 
 pub no_tip_at_hub : {i j : ℕ} (w : Way) → 0 < i → 0 < j → tip_column i w ≡ i → tip_row j w ≡ j → ⊥
-no_tip_at_hub east i_some j_some c r = omega arith
-no_tip_at_hub _ i_some j_some c r = omega arith
+no_tip_at_hub w i_some j_some c r = search rules
 
 module _ (l : Gluing) (x : Lengths) where
   abbrev pub tip : (p i j : ℕ) (w : Way) → Point
@@ -179,16 +166,7 @@ module _ (l : Gluing) (x : Lengths) where
     -- The grid point that lies inside.
     pub point_sort : (q k m p i j : ℕ) → q < l.patches → k ≤ wide l x q → m ≤ high l x q
         → point l x q k m ≡ inside p i j → (q ≡ p) × (k ≡ i) × (m ≡ j)
-    point_sort q k m p i j q_low k_le m_le e = by_tests _ _ _ _ e
-      where
-        by_tests : (b c d f : Bool) → cond b (side_point l x q south k) (cond c
-            (side_point l x q north (wide l x q - k)) (cond d (side_point l x q west (high l x q - m))
-            (cond f (side_point l x q east m) (inside q k m)))) ≡ inside p i j → (q ≡ p) × (k ≡ i) × (m ≡ j)
-        by_tests false false false false s = (cc, cc, cc)
-        by_tests false false false true s = absurd (side_not_inside l x q east m p i j s)
-        by_tests false false true f s = absurd (side_not_inside l x q west (high l x q - m) p i j s)
-        by_tests false true d f s = absurd (side_not_inside l x q north (wide l x q - k) p i j s)
-        by_tests true c d f s = absurd (side_not_inside l x q south k p i j s)
+    point_sort q k m p i j q_low k_le m_le e = search (rules, side_not_inside)
 
     abbrev pub Inner : (p i j : ℕ) → Type 0
     Inner p i j = (p < l.patches) × IsInner laid.paved len p i j
@@ -197,19 +175,15 @@ module _ (l : Gluing) (x : Lengths) where
     hub p i j n = point_inside l x laid len p i j n.1.a_some n.1.a_low n.1.b_some n.1.b_low
 
     pub tip_low : (p i j : ℕ) (w : Way) → Inner p i j → (tip_column i w ≤ wide l x p) × (tip_row j w ≤ high l x p)
-    tip_low p i j east n = (omega (arith, n.1.a_low), omega (arith, n.1.b_low))
-    tip_low p i j _ n = (omega (arith, n.1.a_low), omega (arith, n.1.b_low))
+    tip_low p i j w n = search rules
 
     pub spoke_joins : (p i j : ℕ) (w : Way) → Inner p i j → Joins (spoke p i j w) (inside p i j) (tip p i j w)
-    spoke_joins p i j west n = search rules
-    spoke_joins p i j south n = search rules
-    spoke_joins p i j _ n = inl (hub p i j n, refl)
+    spoke_joins p i j w n = search (rules, hub)
 
     -- An edge with an end inside a patch is a spoke from there.
     pub hub_edge : (f : Edge) (p i j : ℕ) (t : Point) → IsEdge l x f → Joins f (inside p i j) t
         → (w : Way) × (f ≡ spoke p i j w) × (t ≡ tip p i j w)
-    hub_edge (on_arc a k) p i j t is (inl s) = absurd (search rules)
-    hub_edge (on_arc a k) p i j t is (inr s) = absurd (search rules)
+    hub_edge (on_arc a k) p i j t is s = absurd (search rules)
     hub_edge (flat q k m) p i j t is (inl s) =
         let e = point_sort q k m p i j is.0 (omega (arith, is.1)) (omega (arith, is.3)) s.0 in (east, cc, cc)
     hub_edge (flat q k m) p i j t is (inr s) =
@@ -223,7 +197,6 @@ module _ (l : Gluing) (x : Lengths) where
 
     -- A spoke has no equal ends.
     pub loop_at : (e : Edge) (p i j : ℕ) (w : Way) → Inner p i j → e ≡ spoke p i j w → edge_start l x e ≢ edge_end l x e
-    loop_at e p i j w n is same = elim (spoke_joins p i j w n) [ inl s ↦ at_tip (cc) | inr s ↦ at_tip (cc) ]
-      where
-        at_tip : tip p i j w ≡ inside p i j → ⊥
-        at_tip f = search (rules, tip_low, point_sort, no_tip_at_hub)
+    loop_at e p i j w n is same =
+        let at_tip : tip p i j w ≢ inside p i j = search (rules, tip_low, point_sort, no_tip_at_hub) in
+        elim (spoke_joins p i j w n) [ inl s ↦ at_tip (cc) | inr s ↦ at_tip (cc) ]

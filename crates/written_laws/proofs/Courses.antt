@@ -1,7 +1,7 @@
 -- Each dart of a new cell runs along one edge, in its direction or against it, and no other dart does. Over it lies
 -- the dart that runs the other way, or none where the arc stands once.
-use Rattle.std.proofs.Common.{rules, ◌≡◌, ℕ, ◌+◌, ◌-◌, ◌<◌, Bool, true, false, not, cond, refl, sym, ◌∙◌, ap, inl, inr}
-use Rattle.std.proofs.{Common.arith, Common.◌⊎◌, Common.subst, lemmas.Bool.false≢true}
+use Rattle.std.proofs.Common.{rules, ◌≡◌, ℕ, ◌+◌, ◌-◌, ◌<◌, Bool, true, false, not, cond, sym, ◌∙◌, ap, inl, inr}
+use Rattle.std.proofs.{Common.arith, Common.◌⊎◌, Common.subst}
 use Rattle.def_layout.specs.Gluings.{Way, south, east, north, west, Gluing, Slot, IsSlot, use_of}
 use Rattle.def_layout.specs.{declared.tmesh.SideArc.SideArc, Surfaces.IsSurface, Surfaces.IsOtherSlot}
 use Rattle.def_layout.specs.Lengths.{Lengths, reach, size, wide, high, AreLengths}
@@ -44,11 +44,8 @@ inner_ahead west = false
 abbrev pub inner_course : (p i j : ℕ) (w : Way) → Course
 inner_course p i j w = course (inner_edge p i j w) (inner_ahead w)
 
-inner_no_arc : (p i j : ℕ) (w : Way) → is_arc (inner_edge p i j w) ≡ false
-inner_no_arc p i j = elim [ south ↦ refl | east ↦ refl | north ↦ refl | west ↦ refl ]
-
 pub not_on_arc : (p i j : ℕ) (w : Way) {a k : ℕ} {b : Bool} → inner_course p i j w ≡ course (on_arc a k) b → ⊥
-not_on_arc p i j w e = false≢true (sym (inner_no_arc p i j w) ∙ ap (λ (c : Course). is_arc c.edge) e)
+not_on_arc p i j w e = search rules
 
 module _ (l : Gluing) (x : Lengths) where
   -- Where a course begins and ends.
@@ -103,27 +100,16 @@ module _ (l : Gluing) (x : Lengths) where
     pub course_is : {d : CellDart} → IsDart l x d → IsEdge l x (course_of d).edge
     course_is {d} is = elim (sees l x laid.paved len is) [
       | inl i ↦ rw (within_course d.patch d.i d.j d.way i) i
-      | inr (w, o, b) ↦
-          let low = laid.paved.arc_low w b.is_slot in
-          rw (border_is b) (elim (use_of l w).forward as
-          (λ f. IsEdge l x (on_arc (use_of l w).arc (cond f o (x (use_of l w).arc - 1 - o))))
-          [ true ↦ (low, b.low) | false ↦ (low, omega (arith, b.low)) ])
+      | inr (w, o, b) ↦ search (rules, border_is b, laid.paved.arc_low w)
     ]
 
     course_ends : (d : CellDart) → IsDart l x d
         → (dart_start l x d ≡ start_at (course_of d)) × (dart_end l x d ≡ end_at (course_of d))
-    course_ends d is = elim (sees l x laid.paved len is) [
-      | inl i ↦ search (rules, within_course)
-      | inr (w, o, b) ↦
-          let e = by_way (use_of l w).arc (use_of l w).forward o b.low in
-          search (rules, border_is, at_from, at_to)
-    ]
+    course_ends d is = search (rules, sees l x laid.paved len is, within_course, by_way, border_is, at_from, at_to)
       where
-        by_way : (a : ℕ) (b : Bool) (o : ℕ) → o < x a → (use_point l x (record { arc = a; forward = b }) o ≡ start_at
-            (use_course (record { arc = a; forward = b }) o)) × (use_point l x (record { arc = a; forward = b }) (o + 1)
-            ≡ end_at (use_course (record { arc = a; forward = b }) o))
-        by_way a true o low = (refl, refl)
-        by_way a false o low = search rules
+        by_way : (u : SideArc) (o : ℕ) → o < x u.arc
+            → (use_point l x u o ≡ start_at (use_course u o)) × (use_point l x u (o + 1) ≡ end_at (use_course u o))
+        by_way u o low = search rules
 
     pub course_from : (d : CellDart) → IsDart l x d → dart_start l x d ≡ start_at (course_of d)
     course_from d is = (course_ends d is).0
@@ -136,25 +122,15 @@ module _ (l : Gluing) (x : Lengths) where
         → use_course (use_of l v) o ≡ use_course (use_of l w) k → slot_dart l x v o ≡ slot_dart l x w k
     use_once v w o k is_v is_w o_low k_low same =
         let ways : (use_of l v).forward ≡ (use_of l w).forward = ap (λ (c : Course). c.ahead) same in
-        let edges : on_arc (use_of l v).arc (cond (use_of l v).forward o (x (use_of l v).arc - 1 - o)) ≡ on_arc (use_of
-        l w).arc (cond (use_of l w).forward k (x (use_of l w).arc - 1 - k)) = ap (λ (c : Course). c.edge) same in
-        let arcs : (use_of l v).arc ≡ (use_of l w).arc = cc in
+        let edges = ap (λ (c : Course). c.edge) same in
+        let arcs : (use_of l v).arc ≡ (use_of l w).arc = cc edges in
         let slots : v ≡ w = laid.once v w is_v is_w (λ t. record { arc = arcs t; forward = ways t }) in
         search (rules, alike_place)
 
     -- Darts with one course are one.
     pub course_once : {d e : CellDart} → IsDart l x d → IsDart l x e → course_of d ≡ course_of e → d ≡ e
-    course_once {d} {e} is_d is_e same = elim (sees l x laid.paved len is_d) [
-      | inl i ↦
-          let c = within_course d.patch d.i d.j d.way i in
-          search rules
-      | inr (w, o, a) ↦
-          let c = border_is a in
-          elim (sees l x laid.paved len is_e) [
-            | inl j ↦ search (rules, within_course)
-            | inr (v, k, b) ↦ cc (use_once w v o k a.is_slot b.is_slot a.low b.low (cc (border_is b)))
-          ]
-    ]
+    course_once {d} {e} is_d is_e same =
+        search (rules, sees l x laid.paved len is_d, sees l x laid.paved len is_e, within_course, border_is, use_once)
 
     -- Dart e runs the other way along the edge of d.
     pub record IsAcross (d e : CellDart) : Type 0 where
@@ -192,9 +168,7 @@ module _ {l : Gluing} {x : Lengths} (laid : IsSurface l) (len : AreLengths l x) 
       let here = across.course ∙ ap against (border_is l x laid len alone.on_border) in
       elim (sees l x laid.paved len across.is_dart) [
         | inl i ↦ not_on_arc e.patch e.i e.j e.way (sym (within_course l x e.patch e.i e.j e.way i) ∙ here)
-        | inr (v, k, b) ↦
-            let there = sym (border_is l x laid len b) ∙ here in
-            search rules
+        | inr (v, k, b) ↦ let there = sym (border_is l x laid len b) ∙ here in search rules
       ]
 
   -- A dart across begins where the other one ends.
@@ -233,10 +207,6 @@ module _ (l : Gluing) (x : Lengths) (laid : IsSurface l) (len : AreLengths l x) 
   pub edge_points : (e : Edge) → IsEdge l x e → IsPoint l x (edge_start l x e) × IsPoint l x (edge_end l x e)
   edge_points e is =
       let (d, is_d, same) = edge_dart e is in
-      rw same at (by_way (course_of l x d).edge (course_of l x d).ahead
-      (subst (IsPoint l x) (course_from l x laid len d is_d) (from_is l x laid len d is_d))
-      (subst (IsPoint l x) (course_to l x laid len d is_d) (from_is l x laid len (next d) (next_is l x d is_d))))
-    where
-      by_way : (f : Edge) (b : Bool) → IsPoint l x (start_at l x (course f b)) → IsPoint l x (end_at l x (course f b))
-          → IsPoint l x (edge_start l x f) × IsPoint l x (edge_end l x f)
-      by_way f = elim [ true ↦ λ s t. (s, t) | false ↦ λ s t. (t, s) ]
+      let from = rw (course_from l x laid len d is_d) at (from_is l x laid len d is_d) in
+      let to = rw (course_to l x laid len d is_d) at (from_is l x laid len (next d) (next_is l x d is_d)) in
+      rw (← same) (search (rules, from, to))

@@ -1,11 +1,11 @@
 -- Lengths that are open double no edge: lengths of at least 3, and multiples of lengths that double none.
-use Rattle.std.proofs.Common.{rules, ◌≡◌, ◌≢◌, ◌⊎◌, ℕ, ◌+◌, ◌-◌, ◌<◌, ◌≤◌, Bool, true, false, refl, sym, ◌∙◌, ap, inl}
-use Rattle.std.proofs.Common.{inr, arith, zero, suc, ◌*◌, ◌/◌, ◌%◌, cond, subst}
-use Rattle.def_layout.specs.Gluings.{Way, south, east, north, west, side_after, Gluing, Slot, use_of}
+use Rattle.std.proofs.Common.{rules, ◌≡◌, ◌≢◌, ◌⊎◌, ℕ, ◌+◌, ◌-◌, ◌<◌, ◌≤◌, false, refl, sym, ◌∙◌, inl}
+use Rattle.std.proofs.Common.{inr, arith, zero, suc, ◌*◌, ◌/◌, ◌%◌, subst}
+use Rattle.def_layout.specs.Gluings.{Way, south, east, north, west, side_after, Gluing, use_of}
 use Rattle.def_layout.specs.{Surfaces.IsSurface, declared.tmesh.SideArc.SideArc}
 use Rattle.def_layout.specs.Lengths.{Lengths, reach, size, wide, high, AreLengths}
 use Rattle.def_layout.specs.Cells.{CellDart, IsDart, dart}
-use Rattle.def_written.specs.Points.{inside, arc_point, side_point, point, Point, node, along, use_point, use_over}
+use Rattle.def_written.specs.Points.{inside, side_point, point, Point, node, along, use_point, use_over}
 use Rattle.def_written.specs.{Points.offset_at, NewFaces.dart_start, NewFaces.dart_end}
 use Rattle.def_written.specs.Edges.{Edge, on_arc, flat, steep, IsEdge, edge_start, edge_end}
 use Rattle.written_laws.proofs.Sides.{slot, arc_last, use_inner, side_in, reach_low, first_slot, last_slot, last_reach}
@@ -38,13 +38,12 @@ module _ {l : Gluing} {x : Lengths} (laid : IsSurface l) (len : AreLengths l x) 
       let is_v = first_slot l x laid.paved len p (side_after s) p_low in
       let place : t ≡ reach l x p s (l.many p s - 1) + (x (use_of l w).arc - 1) =
       omega (arith, last_reach l x laid.paved len p s p_low) in
-      let w_point = side_in l x (x (use_of l w).arc - 1) is_w (omega arith)
-      ∙ use_inner l x (use_of l w) (x (use_of l w).arc - 1) (omega arith) (omega arith) in
+      let w_side = side_in l x (x (use_of l w).arc - 1) is_w (omega arith) in
+      let w_point = use_inner l x (use_of l w) (x (use_of l w).arc - 1) (omega arith) (omega arith) in
       let v_point = side_in l x 1 is_v (omega arith) ∙ use_inner l x (use_of l v) 1 (omega arith) (omega arith) in
-      let arcs : (use_of l w).arc ≡ (use_of l v).arc = search rules in
+      let arcs : (use_of l w).arc ≡ (use_of l v).arc = cc in
       elim (alike_or_turned (use_of l w).forward (use_of l v).forward) [
-        | inl ways ↦ no_turn s (ap (λ (u : Slot). u.side)
-            (laid.once w v is_w is_v (λ r. record { arc = arcs r; forward = ways r })))
+        | inl ways ↦ no_turn s (cc (laid.once w v is_w is_v (λ r. record { arc = arcs r; forward = ways r })))
         | inr ways ↦ laid.no_fold v is_v refl (rw (before_after s) (record { arc = sym arcs; turned = ways }))
       ]
 
@@ -62,78 +61,51 @@ module _ {l : Gluing} {x : Lengths} (laid : IsSurface l) (len : AreLengths l x) 
   near_tips : (p i j : ℕ) (w v : Way) → Inner l x laid len p i j → Inner l x laid len p (tip_column i w) (tip_row j w)
       → tip l x p i j w ≡ tip l x p i j v → w ≡ v
   near_tips p i j w v n near same =
-      let e = point_sort l x laid len p _ _ p _ _ n.0 (tip_low l x laid len p i j v n).0
-      (tip_low l x laid len p i j v n).1 (cc (hub l x laid len p (tip_column i w) (tip_row j w) near)) in
+      let low = tip_low l x laid len p i j v n in
+      let e = point_sort l x laid len p _ _ p _ _ n.0 low.0 low.1 (cc (hub l x laid len p _ _ near)) in
       one_way i j w v n.1.a_some n.1.b_some (sym e.1) (sym e.2)
 
   far_after : (p i j : ℕ) (w : Way) → Inner l x laid len p i j → Far p i j w → Far p i j (side_after w)
       → tip l x p i j w ≢ tip l x p i j (side_after w)
   far_after p i j east (low, n) e f same =
       let one : wide l x p - i ≡ 1 = omega arith in
-      beside_corner p east j low (omega (arith, len.upright p low)) (search (rules, point_east, point_north))
+      search (rules, beside_corner p east j, len.upright, point_east, point_north)
   far_after p i j north (low, n) e f same =
-      let first : i - 1 ≡ 0 = omega arith in
       let one : high l x p - j ≡ 1 = omega arith in
-      beside_corner p north (wide l x p - i) low (omega (arith, n.a_low, len.across p low))
-      (cc (point_north l x laid len p i low e, point_west l x laid len p j low (omega arith)))
+      search (rules, beside_corner p north (wide l x p - i), len.across, point_north, point_west l x laid len p j)
   far_after p i j _ (low, n) e f same = search (rules, beside_corner, point, point_east, east)
 
   east_west : (p i j : ℕ) → Inner l x laid len p i j → Far p i j east → Far p i j west
       → tip l x p i j east ≢ tip l x p i j west
   east_west p i j (low, n) e f same =
-      let first : i - 1 ≡ 0 = omega arith in
       let two : i + 1 ≡ 2 = omega arith in
-      open_l.across p j low (omega arith) n.b_some n.b_low (cc)
+      search (rules, open_l.across p j)
 
   north_south : (p i j : ℕ) → Inner l x laid len p i j → Far p i j north → Far p i j south
       → tip l x p i j north ≢ tip l x p i j south
   north_south p i j (low, n) e f same =
-      let first : j - 1 ≡ 0 = omega arith in
       let two : j + 1 ≡ 2 = omega arith in
-      open_l.upright p i low (omega arith) n.a_some n.a_low (cc)
+      open_l.upright p i low (omega arith) n.a_some n.a_low (search rules)
 
   far_tips : (p i j : ℕ) (w v : Way) → Inner l x laid len p i j → Far p i j w → Far p i j v
       → tip l x p i j w ≡ tip l x p i j v → w ≡ v
-  far_tips p i j east north n e f same = absurd (far_after p i j east n e f same)
-  far_tips p i j east west n e f same = absurd (east_west p i j n e f same)
-  far_tips p i j east south n e f same = absurd (far_after p i j south n f e (sym same))
-  far_tips p i j north east n e f same = absurd (far_after p i j east n f e (sym same))
-  far_tips p i j north west n e f same = absurd (far_after p i j north n e f same)
-  far_tips p i j north south n e f same = absurd (north_south p i j n e f same)
-  far_tips p i j west east n e f same = absurd (east_west p i j n f e (sym same))
-  far_tips p i j west north n e f same = absurd (far_after p i j north n f e (sym same))
-  far_tips p i j west south n e f same = absurd (far_after p i j west n e f same)
-  far_tips p i j south east n e f same = absurd (far_after p i j south n e f same)
-  far_tips p i j south north n e f same = absurd (north_south p i j n f e (sym same))
-  far_tips p i j south west n e f same = absurd (far_after p i j west n f e (sym same))
-  far_tips p i j _ _ n e f same = refl
+  far_tips p i j east v n e f same = search (rules, far_after p i j east, far_after p i j south, east_west p i j)
+  far_tips p i j north v n e f same = search (rules, far_after p i j east, far_after p i j north, north_south p i j)
+  far_tips p i j west v n e f same = search (rules, far_after p i j north, far_after p i j west, east_west p i j)
+  far_tips p i j south v n e f same = search (rules, far_after p i j west, far_after p i j south, north_south p i j)
 
   tips_differ : (p i j : ℕ) (w v : Way) → Inner l x laid len p i j → tip l x p i j w ≡ tip l x p i j v → w ≡ v
-  tips_differ p i j w v n same = elim (tip_case p i j w n) [
-    | inl near ↦ near_tips p i j w v n near same
-    | inr far ↦ elim (tip_case p i j v n) [
-      | inl near ↦ sym (near_tips p i j v w n near (sym same))
-      | inr too ↦ far_tips p i j w v n far too same
-    ]
-  ]
+  tips_differ p i j w v n same =
+      search (rules, tip_case p i j w, tip_case p i j v, near_tips p i j w v, near_tips p i j v w, far_tips)
 
   -- An edge inside a patch is a spoke.
   edge_spoke : (e : Edge) → IsEdge l x e → is_arc e ≡ false
       → (p : ℕ) × (i : ℕ) × (j : ℕ) × (w : Way) × Inner l x laid len p i j × (e ≡ spoke p i j w)
   edge_spoke (on_arc a k) is off = absurd cc
-  edge_spoke (flat p i j) is off = elim (cases_eq i 0) [
-    | inl z ↦ (p, 1, j, west, search (rules, side_two), search rules)
-    | inr some ↦ (p, i, j, east, search rules, refl)
-  ]
-  edge_spoke (steep p i j) is off = elim (cases_eq j 0) [
-    | inl z ↦ (p, i, 1, south, search (rules, side_two), search rules)
-    | inr some ↦ (p, i, j, north, search rules, refl)
-  ]
-
-  -- The points on both sides of an inner point of an arc differ.
-  arcs_once : (a k b m : ℕ) → IsEdge l x (on_arc a k) → IsEdge l x (on_arc b m)
-      → Joins l x (on_arc a k) (arc_point l x b m) (arc_point l x b (m + 1)) → on_arc a k ≡ on_arc b m
-  arcs_once a k b m is_a is_b joins = elim joins [ inl s ↦ search (rules, s) | inr s ↦ search (rules, s) ]
+  edge_spoke (flat p zero j) is off = (p, 1, j, west, search (rules, side_two), refl)
+  edge_spoke (flat p (suc i) j) is off = (p, suc i, j, east, search rules, refl)
+  edge_spoke (steep p i zero) is off = (p, i, 1, south, search (rules, side_two), refl)
+  edge_spoke (steep p i (suc j)) is off = (p, i, suc j, north, search rules, refl)
 
   -- An edge with the ends of one inside a patch is that edge.
   with_spoke : (g h : Edge) → IsEdge l x g → IsEdge l x h → is_arc h ≡ false
@@ -143,17 +115,16 @@ module _ {l : Gluing} {x : Lengths} (laid : IsSurface l) (len : AreLengths l x) 
       let on = rw is at both in
       let joins = elim (spoke_joins l x laid len p i j w n) as (λ t. Joins l x g (inside p i j) (tip l x p i j w)) [
         | inl s ↦ rw (s.0, s.1) at on
-        | inr s ↦ elim (rw (s.0, s.1) at on) [ inl t ↦ inr t | inr t ↦ inl t ]
+        | inr s ↦ search (rules, on)
       ] in
       let hub = hub_edge l x laid len g p i j _ is_g joins in
       cc (tips_differ p i j w hub.0 n hub.2)
 
   -- Edges with the same ends are one.
   joins_once : (e f : Edge) → IsEdge l x e → IsEdge l x f → Joins l x e (edge_start l x f) (edge_end l x f) → e ≡ f
-  joins_once (on_arc a k) (on_arc b m) is_e is_f joins = arcs_once a k b m is_e is_f joins
-  joins_once e (flat p i j) is_e is_f joins = with_spoke e (flat p i j) is_e is_f refl joins
-  joins_once e (steep p i j) is_e is_f joins = with_spoke e (steep p i j) is_e is_f refl joins
+  joins_once (on_arc a k) (on_arc b m) is_e is_f joins = search (rules, joins)
   joins_once e (on_arc b m) is_e is_f joins = sym (with_spoke (on_arc b m) e is_f is_e refl (search rules))
+  joins_once e f is_e is_f joins = with_spoke e f is_e is_f refl joins
 
   no_loop : (e : Edge) → IsEdge l x e → edge_start l x e ≢ edge_end l x e
   no_loop (on_arc a k) is same = search rules
@@ -191,35 +162,26 @@ module _ (l : Gluing) (y : Lengths) where
   use_double : (u : SideArc) (o : ℕ) → o ≤ y u.arc → use_point l (scale 2 y) u (2 * o) ≡ double (use_point l y u o)
   use_double u o le = search rules
 
+  side_half : (p : ℕ) (s : Way) (t b : ℕ) → p < l.patches → t < size l y p s → b < 2
+      → side_point l (scale 2 y) p s (2 * t + b)
+      ≡ use_point l (scale 2 y) (l.use_at p s (use_over l y p s t)) (2 * offset_at l y p s t + b)
+  side_half p s t b low less b_low =
+      let on = place_on l y p s t low less in
+      let e : 2 * t + b ≡ reach l (scale 2 y) p s (use_over l y p s t) + (2 * offset_at l y p s t + b) =
+      omega (arith, reach_scale 2 p s (use_over l y p s t)) in
+      cc (side_in l (scale 2 y) (2 * offset_at l y p s t + b) on.is_slot (omega (arith, on.inside)))
+
   side_double : (p : ℕ) (s : Way) (t : ℕ) → p < l.patches → t < size l y p s
       → side_point l (scale 2 y) p s (2 * t) ≡ double (side_point l y p s t)
   side_double p s t low less =
       let on = place_on l y p s t low less in
-      let e : 2 * t ≡ reach l (scale 2 y) p s (use_over l y p s t) + 2 * offset_at l y p s t =
-      omega (arith, reach_scale 2 p s (use_over l y p s t)) in
-      cc (
-        side_in l (scale 2 y) (2 * offset_at l y p s t) on.is_slot (omega (arith, on.inside)),
-        use_double (l.use_at p s (use_over l y p s t)) (offset_at l y p s t) (omega (arith, on.inside)),
-      )
+      search (rules, side_half p s t 0, use_double, on.inside)
 
   side_odd : (p : ℕ) (s : Way) (t : ℕ) → p < l.patches → t < size l y p s
       → side_point l (scale 2 y) p s (2 * t + 1) ≡ middle (border_course l y p s t).edge
   side_odd p s t low less =
       let on = place_on l y p s t low less in
-      let e : 2 * t + 1 ≡ reach l (scale 2 y) p s (use_over l y p s t) + (2 * offset_at l y p s t + 1) =
-      omega (arith, reach_scale 2 p s (use_over l y p s t)) in
-      cc (
-        side_in l (scale 2 y) (2 * offset_at l y p s t + 1) on.is_slot (omega (arith, on.inside)),
-        use_inner l (scale 2 y) (l.use_at p s (use_over l y p s t)) (2 * offset_at l y p s t + 1) (omega arith)
-            (omega (arith, on.inside)),
-        by_way (l.use_at p s (use_over l y p s t)).arc
-            (l.use_at p s (use_over l y p s t)).forward (offset_at l y p s t) on.inside,
-      )
-    where
-      by_way : (a : ℕ) (b : Bool) (o : ℕ) → o < y a → along a (cond b (2 * o + 1) (2 * y a - (2 * o + 1)))
-          ≡ along a (2 * cond b o (y a - 1 - o) + 1)
-      by_way a true o inner = refl
-      by_way a false o inner = search rules
+      search (rules, side_half p s t 1, use_inner, on.inside)
 
   middle_same : (a k b m : ℕ) → along a (2 * k + 1) ≡ along b (2 * m + 1) → on_arc a k ≡ on_arc b m
   middle_same a k b m s = search rules
@@ -231,10 +193,9 @@ module _ (l : Gluing) (y : Lengths) where
     -- Two darts of different ways in one cell do not run along one edge from side to side.
     no_shared_edge : {d e : CellDart} → IsDart l y d → IsDart l y e → d ≢ e → dart_start l y e ≢ dart_end l y d
         → (course_of l y e).edge ≢ (course_of l y d).edge
-    no_shared_edge {d} {e} is_d is_e apart ends edges = elim (alike_or_turned _ _) [
-      | inl ways ↦ apart (course_once l y laid len is_d is_e (λ t. record { edge = sym edges t; ahead = ways t }))
-      | inr ways ↦ ends (across_ends laid len {e = e} is_d (search rules)).0
-    ]
+    no_shared_edge {d} {e} is_d is_e apart ends edges =
+        let ways = alike_or_turned (course_of l y d).ahead (course_of l y e).ahead in
+        search (rules, ways, course_once l y laid len is_d is_e, across_ends laid len {d = d} {e = e} is_d)
 
     -- Where opposite sides meet at a point, they meet at a point or run along one edge at half of the lengths.
     opposite : (p : ℕ) (s r : Way) (t n m : ℕ) → p < l.patches → size l y p s ≡ n → size l y p r ≡ n → m ≡ 2 * n
@@ -245,11 +206,11 @@ module _ (l : Gluing) (y : Lengths) where
       | inl e ↦
           let half : 2 * (t / 2) ≡ t = omega arith in
           let rest : m - t ≡ 2 * (n - t / 2) = omega arith in
-          inl (search (rules, side_double, half, rest))
+          inl (search (rules, side_double))
       | inr o ↦
           let half : 2 * (t / 2) + 1 ≡ t = omega arith in
           let rest : m - t ≡ 2 * (n - 1 - t / 2) + 1 = omega arith in
-          inr (search (rules, middle_same, side_odd, half, rest))
+          inr (search (rules, middle_same, side_odd))
     ]
 
     across_open : (p j : ℕ) → p < l.patches → wide l (scale 2 y) p ≡ 2 → 0 < j → j < high l (scale 2 y) p
@@ -260,13 +221,11 @@ module _ (l : Gluing) (y : Lengths) where
         let is : j / 2 < high l y p → (w : Way) → IsDart l y (dart p 0 (j / 2) w) = search rules in
         let sides = sym (point_east l _ laid z_len p j low (sym two) (omega arith)) ∙ sym same
         ∙ point_west l _ laid z_len p j low (omega arith) in
+        let at = is (omega arith) in
+        let apart = ends_differ laid len simple (at south) in
         elim (opposite p east west j _ _ low (len.upright p low) refl rows some less sides) [
-          | inl (e, points) ↦ simple.no_loop (flat p 0 (j / 2)) (low, omega arith, omega arith, omega arith)
-              (search rules)
-          | inr (o, edges) ↦
-              let at = is (omega arith) in
-              no_shared_edge (at west) (at east) (search rules) (λ s. ends_differ laid len simple (at south) (sym s))
-              (search rules)
+          | inl (e, points) ↦ apart (search rules)
+          | inr (o, edges) ↦ no_shared_edge (at west) (at east) (search rules) (λ s. apart (sym s)) (search rules)
         ]
 
     upright_open : (p i : ℕ) → p < l.patches → high l (scale 2 y) p ≡ 2 → 0 < i → i < wide l (scale 2 y) p
@@ -275,14 +234,13 @@ module _ (l : Gluing) (y : Lengths) where
         let one : high l y p ≡ 1 = omega (arith, size_scale 2 p west) in
         let columns = size_scale 2 p south in
         let is : i / 2 < wide l y p → (w : Way) → IsDart l y (dart p (i / 2) 0 w) = search rules in
+        let at = is (omega arith) in
+        let apart = ends_differ laid len simple (at west) in
         elim (opposite p south north i _ _ low refl (len.across p low) columns some less
         (same ∙ point_north l _ laid z_len p i low (sym two))) [
-          | inl (e, points) ↦ simple.no_loop (steep p (i / 2) 0) (low, omega arith, omega arith, omega arith)
-              (cc (point_north l y laid len p (i / 2) low (sym one)))
-          | inr (o, edges) ↦
-              let at = is (omega arith) in
-              no_shared_edge (at south) (at north) (search rules) (λ s. ends_differ laid len simple (at east) (sym s))
-              (search rules)
+          | inl (e, points) ↦ apart (cc (point_north l y laid len p (i / 2) low (sym one)))
+          | inr (o, edges) ↦ no_shared_edge (at south) (at north) (search rules)
+              (λ s. ends_differ laid len simple (at east) (sym s)) (search rules)
         ]
 
     simple_twice : IsSimple l (scale 2 y)

@@ -6,7 +6,7 @@ use Rattle.def_written.specs.{Points.Point, Points.node, Points.along, Points.in
 use Rattle.def_written.specs.{Numbers.before_arc, Numbers.vertex_number, Numbers.vertices, Edges.Edge, Edges.on_arc}
 use Rattle.def_written.specs.{Edges.flat, Edges.steep, Edges.IsEdge}
 use Rattle.written_laws.proofs.Spacings.{place_low, place_same, IsCell, number_inside, cell_once, run_here, cells_of}
-use Rattle.written_laws.proofs.Spacings.{number_of, cell_here, IsInRun}
+use Rattle.written_laws.proofs.Spacings.{number_of, some_cell, IsInRun}
 pub use Rattle.written_laws.proofs.Spacings.{in_rows}
 
 module _ (l : Gluing) (x : Lengths) where
@@ -24,9 +24,8 @@ module _ (l : Gluing) (x : Lengths) where
   along_low a k is = place_low (λ b. x b - 1) l.arcs a (k - 1) is.0 (omega arith)
 
   pub number_low : (a : Point) → IsPoint l x a → vertex_number l x a < vertices l x
-  number_low (node n) is = omega arith
-  number_low (along a k) is = omega (arith, along_low a k is)
   number_low (inside p i j) is = omega (arith, number_inside inner_wide inner_high l.patches (inner_cell p i j is))
+  number_low _ is = search (rules, along_low)
 
   pub number_same : (a b : Point) → IsPoint l x a → IsPoint l x b → vertex_number l x a ≡ vertex_number l x b → a ≡ b
   number_same (node m) (node n) is_a is_b e = ap node e
@@ -65,17 +64,10 @@ module _ (l : Gluing) (x : Lengths) where
   steep_cell : (p i j : ℕ) → IsEdge l x (steep p i j) → IsCell (inner_wide l x) (high l x) l.patches p (i - 1) j
   steep_cell p i j is = record { low = is.0; column = omega (arith, is.1, is.2); row = is.3 }
 
-  arc_place : (a k : ℕ) → IsEdge l x (on_arc a k) → count_below x a + k < count_below x l.arcs
-  arc_place a k is = place_low x l.arcs a k is.0 is.1
-
-  flat_low : (p i j : ℕ) → IsEdge l x (flat p i j) → number_of (wide l x) (inner_high l x) l.patches p i (j - 1)
-      < count_below flats l.patches
-  flat_low p i j is = number_inside (wide l x) (inner_high l x) l.patches (flat_cell p i j is)
-
   pub edge_low : (e : Edge) → IsEdge l x e → edge_number e < edge_total
-  edge_low (on_arc a k) is = omega (arith, arc_place a k is)
-  edge_low (flat p i j) is = omega (arith, flat_low p i j is)
-  edge_low (steep p i j) is = omega (arith, number_inside (inner_wide l x) (high l x) l.patches (steep_cell p i j is))
+  edge_low (on_arc a k) is = omega (arith, place_low x l.arcs a k is.0 is.1)
+  edge_low (flat p i j) is = omega (arith, number_inside _ _ _ (flat_cell p i j is))
+  edge_low (steep p i j) is = omega (arith, number_inside _ _ _ (steep_cell p i j is))
 
   pub edge_same : (e f : Edge) → IsEdge l x e → IsEdge l x f → edge_number e ≡ edge_number f → e ≡ f
   edge_same (on_arc a k) (on_arc b m) is_e is_f same =
@@ -87,54 +79,38 @@ module _ (l : Gluing) (x : Lengths) where
   edge_same (steep p i j) (steep q c d) is_e is_f same =
       let s = cell_once _ _ _ (steep_cell p i j is_e) (steep_cell q c d is_f) (omega arith) in
       search rules
-  edge_same (flat p i j) (steep q c d) is_e is_f same = absurd (omega (arith, flat_low p i j is_e))
-  edge_same (steep p i j) (flat q c d) is_e is_f same = absurd (omega (arith, flat_low q c d is_f))
-  edge_same e (on_arc b m) is_e is_f same = absurd (omega (arith, arc_place b m is_f))
-  edge_same (on_arc a k) _ is_e is_f same = absurd (omega (arith, arc_place a k is_e))
+  edge_same (flat p i j) (steep q c d) is_e is_f e = absurd (omega (arith, number_inside _ _ _ (flat_cell p i j is_e)))
+  edge_same (steep p i j) (flat q c d) is_e is_f e = absurd (omega (arith, number_inside _ _ _ (flat_cell q c d is_f)))
+  edge_same e (on_arc b m) is_e is_f same = absurd (omega (arith, place_low x l.arcs b m is_f.0 is_f.1))
+  edge_same (on_arc a k) _ is_e is_f same = absurd (omega (arith, place_low x l.arcs a k is_e.0 is_e.1))
 
   -- Each number below the total is that of an edge.
   pub edge_onto : (n : ℕ) → n < edge_total → (e : Edge) × IsEdge l x e × (edge_number e ≡ n)
   edge_onto n low = elim (cases_lt n (count_below x l.arcs)) [
-    | inl less ↦ by_arc (run_here x _ n less)
+    | inl less ↦ let h = run_here x _ n less in (on_arc _ _, (h.low, h.inside), sym h.place)
     | inr more ↦ elim (cases_lt n (count_below x l.arcs + count_below flats l.patches)) [
       | inl less ↦
-          let (c, place) = cell_here _ _ _ (n - count_below x l.arcs) (omega arith) in
-          by_flat _ _ _ c (omega (arith, place))
+          let (p, i, j, c, place) = some_cell (wide l x) (inner_high l x) l.patches (n - count_below x l.arcs)
+          (omega arith) in
+          (flat p i (j + 1), search rules, search rules)
       | inr most ↦
-          let (c, place) = cell_here _ _ _ (n - (count_below x l.arcs + count_below flats l.patches)) (omega arith) in
-          by_steep _ _ _ c (omega (arith, place))
+          let (p, i, j, c, place) = some_cell (inner_wide l x) (high l x) l.patches
+          (n - (count_below x l.arcs + count_below flats l.patches)) (omega arith) in
+          (steep p (i + 1) j, search rules, search rules)
     ]
   ]
-    where
-      by_arc : {a o : ℕ} → IsInRun x l.arcs n a o → (e : Edge) × IsEdge l x e × (edge_number e ≡ n)
-      by_arc {a} {o} h = (on_arc a o, (h.low, h.inside), sym h.place)
-
-      by_flat : (p i j : ℕ) → IsCell (wide l x) (inner_high l x) l.patches p i j → count_below x l.arcs
-          + number_of (wide l x) (inner_high l x) l.patches p i j ≡ n → (e : Edge) × IsEdge l x e × (edge_number e ≡ n)
-      by_flat p i j c place = (flat p i (j + 1), search rules, search rules)
-
-      by_steep : (p i j : ℕ) → IsCell (inner_wide l x) (high l x) l.patches p i j
-          → count_below x l.arcs + count_below flats l.patches
-          + number_of (inner_wide l x) (high l x) l.patches p i j ≡ n → (e : Edge) × IsEdge l x e × (edge_number e ≡ n)
-      by_steep p i j c place = (steep p (i + 1) j, search rules, search rules)
 
   -- Each number below that of the vertices is that of a point.
   pub point_onto : (n : ℕ) → n < vertices l x → (a : Point) × IsPoint l x a × (vertex_number l x a ≡ n)
   point_onto n low = elim (cases_lt n l.nodes) [
     | inl less ↦ (node n, less, refl)
     | inr more ↦ elim (cases_lt n (l.nodes + before_arc x l.arcs)) [
-      | inl less ↦ by_arc (omega (arith, more)) (run_here _ _ (n - l.nodes) (omega arith))
+      | inl less ↦
+          let h : (a : ℕ) × (o : ℕ) × IsInRun (λ b. x b - 1) l.arcs (n - l.nodes) a o =
+          (_, _, run_here _ _ (n - l.nodes) (omega arith)) in (along h.0 (h.1 + 1), search rules, search rules)
       | inr most ↦
-          let (c, place) = cell_here _ _ _ (n - (l.nodes + before_arc x l.arcs)) (omega arith) in
-          by_patch _ _ _ c (omega (arith, place))
+          let (p, i, j, c, place) = some_cell (inner_wide l x) (inner_high l x) l.patches
+          (n - (l.nodes + before_arc x l.arcs)) (omega arith) in
+          (inside p (i + 1) (j + 1), search rules, search rules)
     ]
   ]
-    where
-      by_arc : {m a o : ℕ} → n ≡ l.nodes + m → IsInRun (λ b. x b - 1) l.arcs m a o → (a : Point) × IsPoint l x a
-          × (vertex_number l x a ≡ n)
-      by_arc {a} {o} is h = (along a (o + 1), search rules, search rules)
-
-      by_patch : (p i j : ℕ) → IsCell (inner_wide l x) (inner_high l x) l.patches p i j → l.nodes + before_arc x l.arcs
-          + number_of (inner_wide l x) (inner_high l x) l.patches p i j ≡ n
-          → (a : Point) × IsPoint l x a × (vertex_number l x a ≡ n)
-      by_patch p i j c place = (inside p (i + 1) (j + 1), search rules, search rules)

@@ -1,5 +1,5 @@
 -- The border darts of a patch tell their places, and so do all darts that leave a place of an arc.
-use Rattle.std.proofs.Common.{rules, ◌≡◌, ℕ, zero, suc, ◌+◌, ◌-◌, ◌<◌, Bool, true, false, refl, sym, ◌∙◌, ap, subst}
+use Rattle.std.proofs.Common.{rules, ◌≡◌, ℕ, zero, suc, ◌+◌, ◌-◌, ◌<◌, Bool, true, false, refl, sym, ◌∙◌, ap}
 use Rattle.std.proofs.Common.{inl, inr, arith, ◌⊎◌, ◌≤◌, not, cond}
 use Rattle.def_layout.specs.Gluings.{Way, south, east, north, west, side_before, Gluing, Slot, IsSlot}
 use Rattle.def_layout.specs.Gluings.{use_of, use_before, slot_before, start_node}
@@ -19,35 +19,15 @@ module _ {l : Gluing} {x : Lengths} (paved : HasWholeSides l) (len : AreLengths 
       → next (dart_along l x p s t) ≡ dart_along l x q r u → ⊥
   no_corner p q s r t u low t_low u_low e = search rules
 
-  -- A place of a side tells its slot.
-  slot_same : {w v : Slot} {o k : ℕ} → IsSlot l w → IsSlot l v → o < x (use_of l w).arc → k < x (use_of l v).arc
-      → v.patch ≡ w.patch → v.side ≡ w.side → place_at l x w o ≡ place_at l x v k → (w ≡ v) × (o ≡ k)
-  slot_same {w} {v} {o} {k} is_w is_v o_low k_low patches sides places =
-      let k_less = subst (λ (n : ℕ). k < n) (λ q. long_at l x (patches q) (sides q) v.at) k_low in
-      let v_many = subst (λ (n : ℕ). v.at < n) (λ q. l.many (patches q) (sides q)) is_v.low in
-      let r = place_same (long_at l x w.patch w.side) (l.many w.patch w.side) w.at o v.at k is_w.low v_many o_low
-      k_less (places ∙ (λ q. reach l x (patches q) (sides q) v.at + k)) in
-      ((λ q. slot (sym patches q) (sym sides q) (r.0 q)), r.1)
-
   -- A dart is one of those at one place.
   pub spot_once : {d : CellDart} {w v : Slot} {o k : ℕ} {b c : Bool} → IsSpot l x d w o b → IsSpot l x d v k c
       → (w ≡ v) × (o ≡ k) × (b ≡ c)
-  spot_once {d} {w} {v} {o} {k} {b} {c} s r = by_sides b c (sym s.dart ∙ r.dart) s.behind r.behind
-    where
-      t_low : place_at l x w o < size l x w.patch w.side
-      t_low = at_low l x paved len o s.is_slot s.low
-
-      u_low : place_at l x v k < size l x v.patch v.side
-      u_low = at_low l x paved len k r.is_slot r.low
-
-      same : v.patch ≡ w.patch → v.side ≡ w.side → place_at l x w o ≡ place_at l x v k → (w ≡ v) × (o ≡ k)
-      same = slot_same s.is_slot r.is_slot s.low r.low
-
-      by_sides : (b c : Bool) → spot_dart l x w o b ≡ spot_dart l x v k c → (b ≡ true → 0 < place_at l x w o)
-          → (c ≡ true → 0 < place_at l x v k) → (w ≡ v) × (o ≡ k) × (b ≡ c)
-      by_sides false false e f g = search (rules, same, t_low, u_low)
-      by_sides true true e f g = search (rules, t_low, u_low, same)
-      by_sides _ _ e f g = search (rules, no_corner, t_low, u_low)
+  spot_once {d} {w} {v} {o} {k} {b} {c} s r =
+      let t_low = at_low l x paved len o s.is_slot s.low in
+      let u_low = at_low l x paved len k r.is_slot r.low in
+      let same = place_same (long_at l x w.patch w.side) (l.many w.patch w.side) w.at o v.at k s.is_slot.low in
+      let darts : spot_dart l x w o b ≡ spot_dart l x v k c = sym s.dart ∙ r.dart in
+      search (rules, same, no_corner, s.behind, r.behind)
 
   pub rim_slot : {w v : Slot} {o k : ℕ} → IsSlot l w → IsSlot l v → o < x (use_of l w).arc → k < x (use_of l v).arc
       → slot_dart l x w o ≡ slot_dart l x v k → w ≡ v
@@ -100,8 +80,7 @@ pub record IsTurning (l : Gluing) (x : Lengths) (R : CellDart → CellDart → T
 
 -- Two ways are the same or opposite, and no way is its opposite.
 pub alike_or_turned : (a b : Bool) → (a ≡ b) ⊎ (b ≡ not a)
-alike_or_turned true = elim [ true ↦ inl refl | false ↦ inr refl ]
-alike_or_turned false = elim [ true ↦ inr refl | false ↦ inl refl ]
+alike_or_turned a b = search rules
 
 pub not_self : (b : Bool) → b ≡ not b → ⊥
 not_self = elim [ true ↦ λ e. cc | false ↦ λ e. cc ]
@@ -124,8 +103,7 @@ module _ {l : Gluing} {x : Lengths} (paved : HasWholeSides l) (len : AreLengths 
   spot_related : {d : CellDart} {w : Slot} {o : ℕ} {b : Bool} → IsSpot l x d w o b → R d (slot_dart l x w o)
   spot_related {d} {w} {o} {b} s = turning.on _ _ _ (turning.self _ _ s.dart) (by_side b s.behind)
     where
-      by_side : (b : Bool) → (b ≡ true → 0 < reach l x w.patch w.side w.at + o)
-          → R (spot_dart l x w o b) (slot_dart l x w o)
+      by_side : (b : Bool) → (b ≡ true → 0 < place_at l x w o) → R (spot_dart l x w o b) (slot_dart l x w o)
       by_side false some = turning.self _ _ refl
       by_side true some =
           let r = rim_within paved len _ _ _ s.is_slot.patch_low (some refl) (at_low l x paved len o s.is_slot s.low) in
@@ -137,29 +115,20 @@ module _ {l : Gluing} {x : Lengths} (paved : HasWholeSides l) (len : AreLengths 
   before_related w is = spot_related (before_spot paved len w is).1
 
   -- It holds for darts at a grid point inside a patch.
+  north_on : (p c r : ℕ) → IsDart l x (dart p c r north) → IsInner paved len p (c + 1) (r + 1)
+      → R (dart p c r north) (dart p (c + 1) (r + 1) south)
+  north_on p c r d n = turning.on _ (dart p (c + 1) r west) _ (search rules) (search rules)
+
   to_south : (p c r : ℕ) (w : Way) → IsDart l x (dart p c r w) → IsInner paved len p (column c w) (row r w)
       → R (dart p c r w) (dart p (column c w) (row r w) south)
-  to_south p c r = by_way
-    where
-      west_on : (c r : ℕ) → IsDart l x (dart p c r west) → IsInner paved len p c (r + 1)
-          → R (dart p c r west) (dart p c (r + 1) south)
-      west_on c r d n = turning.inner (dart p c r west) d (d.patch_low, d.i_low, n.b_some, n.b_low)
-
-      north_on : (c r : ℕ) → IsDart l x (dart p c r north) → IsInner paved len p (c + 1) (r + 1)
-          → R (dart p c r north) (dart p (c + 1) (r + 1) south)
-      north_on c r d n = turning.on _ (dart p (c + 1) r west) _ (search rules) (search rules)
-
-      by_way : (w : Way) → IsDart l x (dart p c r w) → IsInner paved len p (column c w) (row r w)
-          → R (dart p c r w) (dart p (column c w) (row r w) south)
-      by_way south d n = turning.self _ _ refl
-      by_way west d n = west_on c r d n
-      by_way north d n = north_on c r d n
-      by_way east d n =
-          let e : r - 1 + 1 ≡ r = omega (arith, n.b_some) in
-          let below : IsInner paved len p (c + 1) (r - 1 + 1) = rw e n in
-          let ahead = north_on c (r - 1) (search rules) below in
-          turning.on _ (dart p c (r - 1) north) _ (turning.inner (dart p c r east) d
-          (d.patch_low, d.i_low, n.b_some, n.b_low)) (rw e at ahead)
+  to_south p c r south d n = turning.self _ _ refl
+  to_south p c r west d n = turning.inner (dart p c r west) d (d.patch_low, d.i_low, n.b_some, n.b_low)
+  to_south p c r north d n = north_on p c r d n
+  to_south p c r east d n =
+      let e : r - 1 + 1 ≡ r = omega (arith, n.b_some) in
+      let ahead = north_on p c (r - 1) (search rules) (rw e n) in
+      turning.on _ (dart p c (r - 1) north) _
+      (turning.inner (dart p c r east) d (d.patch_low, d.i_low, n.b_some, n.b_low)) (rw e at ahead)
 
 module _ {l : Gluing} {x : Lengths} (laid : IsSurface l) (len : AreLengths l x) {R : CellDart → CellDart → Type 0}
     (turning : IsTurning l x R) where
@@ -213,10 +182,8 @@ module _ {l : Gluing} {x : Lengths} (laid : IsSurface l) (len : AreLengths l x) 
   module _ (nodes : AtNodes) where
     use_related : (w v : Slot) (o k : ℕ) → IsSlot l w → IsSlot l v → o < x (use_of l w).arc → k < x (use_of l v).arc
         → use_point l x (use_of l w) o ≡ use_point l x (use_of l v) k → R (slot_dart l x w o) (slot_dart l x v k)
-    use_related w v o k is_w is_v o_low k_low same = elim (use_sort l x (use_of l w) o o_low) [
-      | inl (o_zero, a) ↦ search (rules, use_sort)
-      | inr (o_some, a) ↦ search (rules, use_sort, along_related)
-    ]
+    use_related w v o k is_w is_v o_low k_low same =
+        search (rules, use_sort l x (use_of l w) o o_low, use_sort l x (use_of l v) k k_low, along_related)
 
     -- It holds for all darts that leave one point.
     pub point_related : (d e : CellDart) → IsDart l x d → IsDart l x e → dart_start l x d ≡ dart_start l x e → R d e
@@ -228,21 +195,20 @@ module _ {l : Gluing} {x : Lengths} (laid : IsSurface l) (len : AreLengths l x) 
                 let there = inner_from l x laid len e j in
                 let one : dart d.patch (column_of d) (row_of d) south ≡ dart e.patch (column_of e) (row_of e) south =
                 cc in
-                turning.on d _ e (to_south laid.paved len turning d.patch d.i d.j d.way is_d i) (turning.on _ _ e
-                (turning.self _ _ one)
+                turning.on d _ e (to_south laid.paved len turning d.patch d.i d.j d.way is_d i) (rw one
                 (turning.back e _ is_e (to_south laid.paved len turning e.patch e.i e.j e.way is_e j)))
             | inr (v, k, c, r) ↦ absurd (use_not_inside l x (use_of l v) k d.patch (column_of d) (row_of d)
-                (sym (spot_from l x laid len r) ∙ sym same ∙ at))
+                (cc (spot_from l x laid len r)))
           ]
       | inr (w, o, b, s) ↦
           let at = spot_from l x laid len s in
           elim (sort_spot l x laid.paved len e is_e) [
             | inl j ↦ absurd (use_not_inside l x (use_of l w) o e.patch (column_of e) (row_of e)
-                (sym at ∙ same ∙ inner_from l x laid len e j))
+                (cc (inner_from l x laid len e j)))
             | inr (v, k, c, r) ↦
                 let there = spot_from l x laid len r in
-                turning.on d (slot_dart l x w o) e (spot_related laid.paved len turning s)
-                (turning.on (slot_dart l x w o) (slot_dart l x v k) e (use_related w v o k s.is_slot r.is_slot s.low
-                r.low (cc)) (turning.back e (slot_dart l x v k) is_e (spot_related laid.paved len turning r)))
+                let far = turning.back e (slot_dart l x v k) is_e (spot_related laid.paved len turning r) in
+                turning.on d _ e (spot_related laid.paved len turning s) (turning.on _ _ e
+                (use_related w v o k s.is_slot r.is_slot s.low r.low (cc)) far)
           ]
     ]

@@ -1,5 +1,5 @@
 -- Meshes in which no edge is doubled, and what two points then tell of an edge between them.
-use Rattle.std.proofs.Common.{rules, ◌≡◌, ◌≢◌, Bool, true, false, sym, ◌∙◌, ap, ℕ, zero, suc, refl, inl, inr}
+use Rattle.std.proofs.Common.{rules, ◌≡◌, ◌≢◌, true, false, sym, ◌∙◌, ap, ℕ, zero, suc, refl, inl, inr}
 use Rattle.std.proofs.Common.{◌<◌, Some, None, arith}
 use Rattle.def_layout.specs.Gluings.{Gluing, Way, south, east, north, west, side_after, Slot}
 use Rattle.def_layout.specs.{Lengths.Lengths, Lengths.AreLengths, Cells.CellDart, Cells.IsDart, Cells.prev}
@@ -11,12 +11,12 @@ use Rattle.written_laws.proofs.Courses.{across_within, across_border, IsAlone, a
 use Rattle.written_laws.proofs.Courses.{course_is, course_from, course_to, course_once, against_twice, not_on_arc}
 use Rattle.written_laws.proofs.Courses.{within_course, border_is}
 use Rattle.written_laws.proofs.NewDarts.{dart_number, dart_low, number_from, number_to, prev_number, prev_is, next_is}
-use Rattle.written_laws.proofs.NewDarts.{at_number, turn, way_of, turn_way, corner_is, cell_is, faces_long}
+use Rattle.written_laws.proofs.NewDarts.{next_number, at_number, turn, way_of, turn_way, corner_is, cell_is, faces_long}
 use Rattle.written_laws.proofs.{Fans.not_self, Fans.IsTurning, Fans.at_nodes, Fans.point_related, Fans.corner_slots}
 use Rattle.written_laws.proofs.{Borders.at_is, Borders.from_is, Borders.sees, Rims.prev_next, Rims.next_prev}
 use Rattle.written_laws.proofs.{Rims.inner_edge, EdgeNumbers.number_same}
 use Rattle.def_mesh.specs.Manifold.{Chain, HasOneFan, IsManifold, IsRepeatFree, HasEdgesOnce}
-use Rattle.def_mesh.specs.{Darts.from_of, Darts.twin_of, Darts.IsTwin}
+use Rattle.def_mesh.specs.{Darts.from_of, Darts.twin_of}
 use Rattle.mesh_laws.proofs.Chains.{meet_from, chain_join, chain_back, twin_found, twin_none}
 
 -- No two edges have the same ends, and no edge has equal ends.
@@ -41,14 +41,12 @@ simple_by one = record {
 
 module _ {l : Gluing} {x : Lengths} (simple : IsSimple l x) where
   pub one_course : TellCourses l x
-  one_course c k is_c is_k starts ends = by_ways _ _ starts ends
-    where
-      by_ways : (a b : Bool) → start_at l x (course c.edge a) ≡ start_at l x (course k.edge b)
-          → end_at l x (course c.edge a) ≡ end_at l x (course k.edge b) → course c.edge a ≡ course k.edge b
-      by_ways true true s t = ap (λ (f : Edge). course f true) (simple.same _ _ is_c is_k s t)
-      by_ways false false s t = ap (λ (f : Edge). course f false) (simple.same _ _ is_c is_k t s)
-      by_ways true false s t = absurd (simple.no_loop c.edge is_c (cc (simple.crossed _ _ is_c is_k s t)))
-      by_ways false true s t = absurd (simple.no_loop c.edge is_c (cc (simple.crossed _ _ is_c is_k t s)))
+  one_course c k is_c is_k starts ends = search (
+    rules,
+    simple.same c.edge k.edge is_c is_k,
+    simple.crossed c.edge k.edge is_c is_k,
+    simple.no_loop c.edge is_c,
+  )
 
   -- A course from the end to the start of another runs against it.
   pub reversed : (c k : Course) → IsEdge l x c.edge → IsEdge l x k.edge → start_at l x k ≡ end_at l x c
@@ -56,12 +54,13 @@ module _ {l : Gluing} {x : Lengths} (simple : IsSimple l x) where
   reversed c k is_c is_k starts ends =
       let a = against_ends l x c in one_course k (against c) is_k is_c (starts ∙ sym a.0) (ends ∙ sym a.1)
 
-  pub ends_apart : (c : Course) → IsEdge l x c.edge → start_at l x c ≢ end_at l x c
-  ends_apart c is same = not_self c.ahead (ap (λ (k : Course). k.ahead) (reversed c c is is same (sym same)))
+-- Darts that follow each other round a cell inside a patch run along different edges.
+flat_or_steep : (p i j : ℕ) (w : Way) → inner_edge p i j (side_after w) ≢ inner_edge p i j w
+flat_or_steep p i j w e = search rules
 
 -- Where no edge is doubled, the new faces are a manifold, in which twins run the other way along an edge.
 
-module _ (l : Gluing) (x : Lengths) (laid : IsSurface l) (len : AreLengths l x) where
+module _ {l : Gluing} {x : Lengths} (laid : IsSurface l) (len : AreLengths l x) where
   -- A chain of new darts leads from d to e.
   abbrev AreJoined : (d e : CellDart) → Type 0
   AreJoined d e = (n : ℕ) × Chain (new_faces l x) (dart_number l x d) (dart_number l x e) n
@@ -70,16 +69,11 @@ module _ (l : Gluing) (x : Lengths) (laid : IsSurface l) (len : AreLengths l x) 
   join : {d e : CellDart} → IsDart l x d → IsAcross l x laid len (prev d) e → AreJoined d e
   join {d} {e} is a =
       let ends = across_ends laid len (prev_is l x d is) a in
-      let before = ap (from_of (new_faces l x)) (prev_number l x d) ∙ number_from l x (prev d) (prev_is l x d is) in (
-        suc zero,
-        (
-          dart_number l x d,
-          refl,
-          dart_low l x e a.is_dart,
-          cc (number_from l x d is, next_prev d, number_from l x e a.is_dart),
-          meet_from _ _ _ _ (inr (inl (number_to l x e a.is_dart ∙ ap (vertex_number l x) ends.1 ∙ sym before))),
-        ),
-      )
+      let before = ap (from_of (new_faces l x)) (prev_number l x d) ∙ number_from l x (prev d) (prev_is l x d is) in
+      let to = number_to l x e a.is_dart ∙ ap (vertex_number l x) ends.1 ∙ sym before in
+      let leaves : from_of (new_faces l x) (dart_number l x e) ≡ from_of (new_faces l x) (dart_number l x d) =
+      cc (number_from l x d is, next_prev d, number_from l x e a.is_dart) in
+      (1, (dart_number l x d, refl, dart_low l x e a.is_dart, sym leaves, meet_from _ _ _ _ (inr (inl to))))
 
   joins : IsTurning l x AreJoined
   joins = record {
@@ -91,31 +85,38 @@ module _ (l : Gluing) (x : Lengths) (laid : IsSurface l) (len : AreLengths l x) 
         (rw (prev_next (slot_dart l x w o)) (across_border laid len w v o is other less));
   }
 
+  -- New darts that leave one vertex leave one point.
+  starts_same : {d e : CellDart} → IsDart l x d → IsDart l x e → from_of (new_faces l x) (dart_number l x d)
+      ≡ from_of (new_faces l x) (dart_number l x e) → dart_start l x d ≡ dart_start l x e
+  starts_same {d} {e} is_d is_e same = search (rules, number_same, from_is, number_from)
+
   pub one_fan : HasFans l → (v : ℕ) → HasOneFan (new_faces l x) v
   one_fan fans v d e d_low e_low d_from e_from =
       let a = at_number l x laid len d d_low in
       let b = at_number l x laid len e e_low in
       let joined = point_related laid len joins (at_nodes laid len joins fans) a.0 b.0 a.1 b.1
-      (number_same l x _ _ (from_is l x laid len a.0 a.1) (from_is l x laid len b.0 b.1)
-      (cc (number_from l x a.0 a.1, number_from l x b.0 b.1))) in search rules
+      (starts_same a.1 b.1 (cc)) in search rules
 
--- Darts that follow each other round a cell inside a patch run along different edges.
-flat_or_steep : (p i j : ℕ) (w : Way) → inner_edge p i j (side_after w) ≢ inner_edge p i j w
-flat_or_steep p i j south e = cc
-flat_or_steep p i j _ e = cc
-
-module _ {l : Gluing} {x : Lengths} (laid : IsSurface l) (len : AreLengths l x) where
   module _ (simple : IsSimple l x) where
+    -- Darts with the same ends are one, and those with exchanged ends run against each other.
+    same_dart : {d e : CellDart} → IsDart l x d → IsDart l x e → dart_start l x d ≡ dart_start l x e
+        → dart_end l x d ≡ dart_end l x e → d ≡ e
+    same_dart {d} {e} is_d is_e starts ends =
+        course_once l x laid len is_d is_e (one_course simple _ _ (course_is l x laid len is_d)
+        (course_is l x laid len is_e) (cc (course_from l x laid len d is_d, course_from l x laid len e is_e))
+        (cc (course_to l x laid len d is_d, course_to l x laid len e is_e)))
+
+    turned : {d e : CellDart} → IsDart l x d → IsDart l x e → dart_start l x e ≡ dart_end l x d
+        → dart_end l x e ≡ dart_start l x d → course_of l x e ≡ against (course_of l x d)
+    turned {d} {e} is_d is_e starts ends = search (rules, reversed simple, course_is, course_from, course_to)
+
     pub ends_differ : {d : CellDart} → IsDart l x d → dart_start l x d ≢ dart_end l x d
-    ends_differ {d} is same = ends_apart simple (course_of l x d) (course_is l x laid len is)
-        (sym (course_from l x laid len d is) ∙ same ∙ course_to l x laid len d is)
+    ends_differ {d} is same = not_self _ (ap (λ (c : Course). c.ahead) (turned is is same (sym same)))
 
     pub opposite_differ : {d : CellDart} → IsDart l x d → dart_start l x d ≢ dart_end l x (next d)
     opposite_differ {d} is same =
         let is_next = next_is l x d is in
-        let turned = reversed simple (course_of l x d) (course_of l x (next d)) (course_is l x laid len is)
-        (course_is l x laid len is_next) (sym (course_from l x laid len (next d) is_next) ∙ course_to l x laid len d is)
-        (sym (course_to l x laid len (next d) is_next) ∙ sym same ∙ course_from l x laid len d is) in
+        let back = turned is is_next refl (sym same) in
         elim (sees l x laid.paved len is) [
           | inl i ↦ search (rules, within_course, sees, flat_or_steep, not_on_arc, against_twice, border_is)
           | inr (w, o, a) ↦
@@ -123,9 +124,8 @@ module _ {l : Gluing} {x : Lengths} (laid : IsSurface l) (len : AreLengths l x) 
               elim (sees l x laid.paved len is_next) [
                 | inl j ↦ search (rules, not_on_arc, within_course)
                 | inr (v, k, b) ↦
-                    let c = corner_slots laid.paved len d a b in
-                    let there = sym (border_is l x laid len b) ∙ turned ∙ ap against here in
-                    laid.no_fold v b.is_slot c.0 (search rules)
+                    let there = sym (border_is l x laid len b) ∙ back ∙ ap against here in
+                    search (rules, laid.no_fold v b.is_slot, corner_slots laid.paved len d a b)
               ]
         ]
 
@@ -156,41 +156,28 @@ module _ {l : Gluing} {x : Lengths} (laid : IsSurface l) (len : AreLengths l x) 
         let j_is : turn (way_of j) ≡ j = turn_way j four in
         search (rules, corners_differ, corner_is)
 
-    -- Darts with the same ends are one, and those with exchanged ends lie over each other.
-    starts_same : {d e : CellDart} → IsDart l x d → IsDart l x e → vertex_number l x (dart_start l x d)
-        ≡ vertex_number l x (dart_start l x e) → dart_start l x d ≡ dart_start l x e
-    starts_same {d} {e} is_d is_e = number_same l x _ _ (from_is l x laid len d is_d) (from_is l x laid len e is_e)
-
     pub edges_once : HasEdgesOnce (new_faces l x)
     edges_once d e d_low e_low same =
         let (a, is_a, a_is) = at_number l x laid len d d_low in
         let (b, is_b, b_is) = at_number l x laid len e e_low in
-        let starts = starts_same is_a is_b (cc (same.0, number_from l x a is_a, number_from l x b is_b)) in
+        let starts = starts_same is_a is_b (cc same.0) in
         let ends = starts_same (next_is l x a is_a) (next_is l x b is_b)
-        (cc (same.1, number_to l x a is_a, number_to l x b is_b)) in
-        let one = one_course simple (course_of l x a) (course_of l x b) (course_is l x laid len is_a)
-        (course_is l x laid len is_b) (cc (course_from l x laid len a is_a, course_from l x laid len b is_b))
-        (cc (course_to l x laid len a is_a, course_to l x laid len b is_b)) in
-        cc (course_once l x laid len is_a is_b one)
-
-    across_is_twin : (d e : CellDart) → IsDart l x d → IsAcross l x laid len d e
-        → IsTwin (new_faces l x) (dart_number l x d) (dart_number l x e)
-    across_is_twin d e is a = let ends = across_ends laid len is a in search (rules, dart_low, number_from, number_to)
+        (cc (same.1, next_number l x a, next_number l x b)) in
+        cc (same_dart is_a is_b starts ends)
 
     pub across_twin : (d e : CellDart) → IsDart l x d → IsAcross l x laid len d e
         → twin_of (new_faces l x) (dart_number l x d) ≡ Some (dart_number l x e)
-    across_twin d e is a = twin_found _ edges_once _ _ (across_is_twin d e is a)
+    across_twin d e is a =
+        let ends = across_ends laid len is a in
+        twin_found _ edges_once _ _ (search (rules, dart_low, number_from, number_to))
 
     pub alone_no_twin : (d : CellDart) (w : Slot) (o : ℕ) → IsDart l x d → IsAlone laid len d w o
         → twin_of (new_faces l x) (dart_number l x d) ≡ None
     alone_no_twin d w o is alone = twin_none _ _ (λ n t.
         let (e, is_e, e_is) = at_number l x laid len n t.0 in
-        let starts = starts_same is_e (next_is l x d is) (cc (t.1, number_from l x e is_e, number_to l x d is)) in
-        let ends = starts_same (next_is l x e is_e) is (cc (t.2, number_to l x e is_e, number_from l x d is)) in
-        let r = reversed simple (course_of l x d) (course_of l x e) (course_is l x laid len is)
-        (course_is l x laid len is_e) (cc (course_from l x laid len e is_e, course_to l x laid len d is))
-        (cc (course_to l x laid len e is_e, course_from l x laid len d is)) in
-        alone_not_across laid len e alone (record { is_dart = is_e; course = r }))
+        let starts = starts_same is_e (next_is l x d is) (cc (t.1, next_number l x d)) in
+        let ends = starts_same (next_is l x e is_e) is (cc (t.2, next_number l x e)) in
+        alone_not_across laid len e alone (record { is_dart = is_e; course = turned is is_e starts ends }))
 
     pub manifold : HasFans l → IsManifold (new_faces l x)
-    manifold fans = record { repeat_free = repeat_free; edges_once = edges_once; one_fan = one_fan l x laid len fans }
+    manifold fans = record { repeat_free = repeat_free; edges_once = edges_once; one_fan = one_fan fans }

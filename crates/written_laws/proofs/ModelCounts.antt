@@ -16,7 +16,7 @@ use Rattle.def_written.specs.{Numbers.vertex_number, Numbers.vertices, NewFaces.
 use Rattle.def_written.specs.{NewFaces.face_count, NewFaces.new_faces, Edges.Edge, Edges.IsEdge}
 use Rattle.written_laws.proofs.NewDarts.{dart_number, dart_low, dart_same, at_number, next_number, number_from}
 use Rattle.written_laws.proofs.NewDarts.{faces_long}
-use Rattle.written_laws.proofs.Courses.{IsAcross, across_or_alone, Course, course, course_of, course_is, course_once}
+use Rattle.written_laws.proofs.Courses.{IsAcross, across_or_alone, Course, course_of, course_is, course_once}
 use Rattle.written_laws.proofs.Courses.{alone_not_across, edge_dart}
 use Rattle.written_laws.proofs.EdgeNumbers.{flats, steeps, edge_number, edge_total, edge_low, edge_same, edge_onto}
 use Rattle.written_laws.proofs.EdgeNumbers.{point_onto, number_same, number_low}
@@ -87,13 +87,8 @@ module _ (l : Gluing) (x : Lengths) (laid : IsSurface l) (len : AreLengths l x) 
     alike = λ d e is_d is_e s. cc (number_from l x d is_d, number_from l x e is_e);
     apart = λ d e is_d is_e s. search (rules, number_same, from_is, number_from);
     across = across_twin laid len simple;
-    alone = alone;
+    alone = λ d is none. search (rules, across_or_alone laid len d is, alone_no_twin laid len simple);
   }
-    where
-      alone : (d : CellDart) → IsDart l x d → ((e : CellDart) → ¬ IsAcross l x laid len d e)
-          → twin_of (new_faces l x) (dart_number l x d) ≡ None
-      alone d is none =
-          elim (across_or_alone laid len d is) [ inl a ↦ search rules | inr a ↦ search (rules, alone_no_twin) ]
 
 -- How many vertices, edges and faces a model has, and Euler's number.
 
@@ -124,10 +119,6 @@ module _ (l : Gluing) (x : Lengths) (laid : IsSurface l) (len : AreLengths l x) 
       arc_sum : (n : ℕ) → ((a : ℕ) → a < n → a < l.arcs) → count_below (λ a. x a - 1) n + n ≡ count_below x n
       arc_sum zero low = refl
       arc_sum (suc n) low = omega (arith, arc_sum n (λ a less. low a (omega arith)), len.some n (low n (omega arith)))
-
-      rectangle : (w h : ℕ) → 0 < w → 0 < h → (w - 1) * (h - 1) + w * h ≡ w * (h - 1) + (w - 1) * h + 1
-      rectangle (suc w) (suc h) w_some h_some = search rules
-      rectangle _ _ w_some h_some = absurd (omega arith)
 
   module _ (F : Faces) (cell : CellDart → ℕ) (model : IsModel F l x laid len cell) where
     -- Vertices in use and points, by the darts that leave them.
@@ -161,13 +152,9 @@ module _ (l : Gluing) (x : Lengths) (laid : IsSurface l) (len : AreLengths l x) 
           | inl (c, a) ↦ elim (cases_order (cell d) (cell c)) [
             | inl s ↦ absurd (no_self d (rw (← model.same d c is_d a.is_dart s) at a))
             | inr (inl less) ↦ (d, (is_d, lesser_by _ (model.across d c is_d a) less), edge)
-            | inr (inr more) ↦
-                let lesser = lesser_by _ (model.across c d a.is_dart (across_back d c is_d a)) more in
-                (c, (a.is_dart, lesser), cc)
+            | inr (inr more) ↦ (c, (a.is_dart, search (rules, lesser_by, model.across, across_back d c)), cc)
           ]
-          | inr a ↦
-              let lesser = ap (is_lesser (cell d)) (model.alone d is_d (λ c. alone_not_across laid len c a.2)) in
-              (d, (is_d, lesser), edge)
+          | inr a ↦ (d, (is_d, search (rules, model.alone, alone_not_across)), edge)
         ]
       where
         lesser_by : (k : ℕ) {t : Option ℕ} {n : ℕ} → t ≡ Some n → k < n → is_lesser k t ≡ true
@@ -175,10 +162,9 @@ module _ (l : Gluing) (x : Lengths) (laid : IsSurface l) (len : AreLengths l x) 
 
     -- Lesser darts of one edge are one.
     lesser_once : (d e : CellDart) → IsLesser d → IsLesser e → (course_of l x d).edge ≡ (course_of l x e).edge → d ≡ e
-    lesser_once d e (is_d, d_less) (is_e, e_less) edges = elim (alike_or_turned _ _) [
-      | inl ways ↦ course_once l x laid len is_d is_e (λ t. course (edges t) (ways t))
-      | inr ways ↦ search (rules, across_back)
-    ]
+    lesser_once d e (is_d, d_less) (is_e, e_less) edges =
+        let ways = alike_or_turned (course_of l x d).ahead (course_of l x e).ahead in
+        search (rules, ways, course_once l x laid len is_d is_e, across_back)
 
     -- Edges, by their lesser darts.
     by_lesser : AreNumbers IsLesser cell (λ k. is_lesser k (twin_of F k)) (darts F)

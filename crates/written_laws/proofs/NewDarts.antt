@@ -35,8 +35,7 @@ turn_low = elim [ south ↦ omega arith | east ↦ omega arith | north ↦ omega
 
 around : (c : ℕ) (w : Way) → (next_of (4 * c + turn w) ≡ 4 * c + turn (side_after w))
     × (prev_of (4 * c + turn w) ≡ 4 * c + turn (side_before w))
-around c south = (grind (arith, nat_tests), grind (arith, nat_tests))
-around c _ = (grind (arith, nat_tests), grind (arith, nat_tests))
+around c w = search (rules, nat_tests)
 
 module _ (l : Gluing) (x : Lengths) where
   -- The number of a dart's cell.

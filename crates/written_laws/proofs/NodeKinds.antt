@@ -2,16 +2,16 @@
 -- each model, whatever the lengths.
 use Rattle.std.proofs.Common.{rules, ◌≡◌, ◌≢◌, ◌⊎◌, ℕ, zero, suc, ◌+◌, ◌-◌, ◌<◌, true, false, Some, None, refl, sym}
 use Rattle.std.proofs.Common.{◌∙◌, ap, subst, inl, inr, arith, ◌≤◌, Bool}
-use Rattle.std.proofs.lemmas.Bool.{cond-false, eq-eqb, cases_eq, eqb-true}
+use Rattle.std.proofs.lemmas.Bool.{cond-false, eq-eqb, eqb-true}
 use Rattle.def_mesh.specs.Darts.{darts, from_of, prev_of, twin_of, to_of}
 use Rattle.def_mesh.specs.{Faces.Faces, Vertices.faces_at, Kinds.is_inner, Kinds.is_regular}
-use Rattle.def_mesh.specs.HalfEdges.{IsQuadManifold, AreTurned, Turns, half_edges}
+use Rattle.def_mesh.specs.HalfEdges.{IsQuadManifold, Turns, half_edges}
 use Rattle.def_layout.specs.Gluings.{south, east, north, west, Gluing, Slot, IsSlot, use_of, start_node, end_node}
 use Rattle.def_layout.specs.{declared.tmesh.SideArc.SideArc, Surfaces.IsSurface, Surfaces.IsOtherSlot, Lengths.Lengths}
 use Rattle.def_layout.specs.Cells.{CellDart, IsDart, dart, prev, slot_dart, next}
 use Rattle.def_written.specs.Points.{along, inside, IsPoint, Point, node}
 use Rattle.face_laws.proofs.FullCuts.{has_fan, inner_twin, cross_regular}
-use Rattle.written_laws.proofs.Sides.{arc_inner, first_is, use_begins, use_ends, use_inner, use_some, use_sort}
+use Rattle.written_laws.proofs.Sides.{arc_inner, first_is, use_begins, use_ends, use_some, use_sort, use_node}
 use Rattle.written_laws.proofs.{Borders.inner_from, Courses.IsAcross, Courses.across_or_alone, Fans.rim_slot}
 use Rattle.written_laws.proofs.{Fans.spot_once, NewDarts.prev_is, NewDarts.next_is, ModelCounts.IsModel}
 use Rattle.written_laws.proofs.Borders.{spot_dart, at_is, at_from, at_to, IsSpot, spot_is, spot_from, sort_spot}
@@ -33,15 +33,12 @@ module _ (F : Faces) (laws : IsQuadManifold (half_edges F)) (d a : ℕ) (low : d
 
   one_of_two : (n x : ℕ) → Turns (half_edges F) d x n → (x ≡ d) ⊎ (x ≡ a)
   one_of_two zero x t = inl (sym t)
-  one_of_two (suc n) x t = by_step (one_of_two n t.0 t.1) t.2 t.3
-    where
-      by_step : {y : ℕ} → (y ≡ d) ⊎ (y ≡ a) → x < darts F → AreTurned (half_edges F) y x → (x ≡ d) ⊎ (x ≡ a)
-      by_step (inl e) x_low (inl r) = inr (cc)
-      by_step (inr e) x_low (inl r) = absurd (none-some x (cc))
-      by_step (inl e) x_low (inr r) = absurd (none-some (prev_of x) (cc (laws.twin_twin _ _ (laws.prev_low x x_low) r)))
-      by_step (inr e) x_low (inr r) =
-          let same : prev_of x ≡ prev_of d = cc (laws.twin_twin _ _ (laws.prev_low x x_low) r, back) in
-          inl (cc (laws.next_prev x, laws.next_prev d))
+  one_of_two (suc n) x t =
+      let before = one_of_two n t.0 t.1 in
+      let back_twin = laws.twin_twin (prev_of x) t.0 (laws.prev_low x t.2) in
+      let x_is = laws.next_prev x in
+      let d_is = laws.next_prev d in
+      search (rules, back_twin, back, first, last, none, t.3)
 
   pub edge_regular : is_regular F (from_of F d) ≡ true
   edge_regular = eq-eqb _ _ (two ∙ sym (cond-false (is_inner F (from_of F d)) 4 2 boundary))
@@ -65,77 +62,6 @@ module _ (F : Faces) (laws : IsQuadManifold (half_edges F)) (d a : ℕ) (low : d
           by_place : (j : ℕ) → (pick j < darts F) × (from_of F (pick j) ≡ from_of F d)
           by_place zero = (low, refl)
           by_place (suc j) = (a_low, cc ((laws.twin_ends _ a (laws.prev_low d low) first).0, laws.next_prev d))
-
-          apart : (i j : ℕ) → i < 2 → j < 2 → pick i ≡ pick j → i ≡ j
-          apart zero zero i_low j_low e = refl
-          apart zero (suc j) i_low j_low e = absurd (none-some (prev_of d) (cc (none, back)))
-          apart (suc i) zero i_low j_low e = absurd (none-some (prev_of d) (cc (none, back)))
-          apart (suc i) (suc j) i_low j_low e = omega arith
-
-module _ {l : Gluing} {x : Lengths} {laid : IsSurface l} {len : AreLengths l x} {F : Faces} {cell : CellDart → ℕ}
-    (model : IsModel F l x laid len cell) where
-  -- Where no slot uses an arc the other way round, its darts have no twin.
-  alone_twin : (w : Slot) (o : ℕ) → IsSlot l w → o < x (use_of l w).arc → ((v : Slot) → ¬ IsOtherSlot l w v)
-      → twin_of F (cell (slot_dart l x w o)) ≡ None
-  alone_twin w o is less none =
-      let s : IsAlone laid len (slot_dart l x w o) w o = search rules in
-      model.alone (slot_dart l x w o) (at_is l x laid.paved len w o is less) (λ e. alone_not_across laid len e s)
-
-module _ {l : Gluing} {x : Lengths} {laid : IsSurface l} {len : AreLengths l x} {F : Faces} {cell : CellDart → ℕ}
-    (model : IsModel F l x laid len cell) (laws : IsQuadManifold (half_edges F)) where
-  prev_cell : {d : CellDart} → IsDart l x d → prev_of (cell d) ≡ cell (prev d)
-  prev_cell {d} is = cc (next_prev d, model.turned (prev d) (prev_is l x d is), laws.prev_next (cell (prev d)))
-
-  turn_twin : {d e : CellDart} → IsDart l x d → IsAcross l x laid len (prev d) e
-      → twin_of F (prev_of (cell d)) ≡ Some (cell e)
-  turn_twin {d} {e} is a = ap (twin_of F) (prev_cell is) ∙ model.across (prev d) e (prev_is l x d is) a
-
-  -- Where four turns lead back, the vertex is regular.
-  cross_at : {d a b c : CellDart} → IsAcross l x laid len (prev d) a → IsAcross l x laid len (prev a) b → IsAcross l x
-      laid len (prev b) c → IsAcross l x laid len (prev c) d → d ≢ b → is_regular F (from_of F (cell d)) ≡ true
-  cross_at {d} {a} {b} {c} i j k m apart = cross_regular F laws (cell d) (model.low d m.is_dart) (
-    cell a,
-    cell b,
-    cell c,
-    search (rules, turn_twin, model.same),
-  )
-
-  pub inside_regular : (p i j : ℕ) (e : CellDart) → IsPoint l x (inside p i j) → IsDart l x e
-      → dart_start l x e ≡ inside p i j → is_regular F (from_of F (cell e)) ≡ true
-  inside_regular p i j e (p_low, i_some, i_low, j_some, j_low) is_e leaves =
-      let is : IsDart l x (dart p i j south) = record { patch_low = p_low; i_low = i_low; j_low = j_low } in
-      let same = model.alike e (dart p i j south) is_e is (leaves
-      ∙ sym (point_inside l x laid len p i j i_some i_low j_some j_low)) in
-      rw same (cross_at (across_within laid len (dart p i j west) (p_low, i_some, i_low, j_low))
-      (across_within laid len (dart p (i - 1) j south) (p_low, omega arith, j_some, j_low))
-      (across_within laid len (dart p (i - 1) (j - 1) east) (p_low, omega arith, omega arith, omega arith))
-      (subst (IsAcross l x laid len (dart p (i - 1 + 1) (j - 1) north)) (dart_is p south (omega arith) (omega arith))
-      (across_within laid len (dart p (i - 1 + 1) (j - 1) north) (p_low, omega arith, omega arith, omega arith)))
-      (search rules))
-
-  pub along_regular : (a k : ℕ) (e : CellDart) → IsPoint l x (along a k) → IsDart l x e → dart_start l x e ≡ along a k
-      → is_regular F (from_of F (cell e)) ≡ true
-  along_regular a k e (low, some, less) is_e leaves =
-      let (w, is_w, used) = laid.forward a low in
-      let long = ap (λ (u : SideArc). x u.arc) used in
-      let w_less : k < x (use_of l w).arc = omega (arith, long) in
-      let is = at_is l x laid.paved len w k is_w w_less in
-      let same = model.alike e (slot_dart l x w k) is_e is (leaves ∙ sym (search (rules, at_from, arc_inner))) in
-      let turn = rim_turn laid len w k is_w w_less (omega arith) in
-      rw same (elim (laid.other w is_w) [
-        | inl (u, other) ↦
-            let both = ap x other.1.arc in
-            let u_less : x (use_of l w).arc - k < x (use_of l u).arc = omega arith in
-            cross_at turn (border_turn laid len w u k (x (use_of l w).arc - k) is_w other some w_less refl)
-            (rim_turn laid len u (x (use_of l w).arc - k) other.0 u_less (omega arith))
-            (border_turn laid len u w (x (use_of l w).arc - k) k other.0 (
-              is_w,
-              search rules,
-            ) (omega arith) u_less (omega arith)) (search (rules, rim_slot))
-        | inr none ↦ edge_regular F laws (cell (slot_dart l x w k)) (cell (spot_dart l x w k true)) (model.low _ is)
-            (turn_twin is turn) (ap (twin_of F) (search (rules, prev_cell, spot_back))
-            ∙ alone_twin model w (k - 1) is_w (omega arith) none) (alone_twin model w k is_w w_less none)
-      ])
 
 -- A dart at node n, by slot, whatever the lengths: the first one on the border of an arc, or the one behind it.
 pub record IsNodeSpot (l : Gluing) (n : ℕ) (w : Slot) (b : Bool) : Type 0 where
@@ -165,6 +91,68 @@ module _ {l : Gluing} {x : Lengths} (laid : IsSurface l) (len : AreLengths l x) 
 
 module _ {l : Gluing} {x : Lengths} {laid : IsSurface l} {len : AreLengths l x} {F : Faces} {cell : CellDart → ℕ}
     (model : IsModel F l x laid len cell) where
+  -- Where no slot uses an arc the other way round, its darts have no twin.
+  alone_twin : (w : Slot) (o : ℕ) → IsSlot l w → o < x (use_of l w).arc → ((v : Slot) → ¬ IsOtherSlot l w v)
+      → twin_of F (cell (slot_dart l x w o)) ≡ None
+  alone_twin w o is less none =
+      let s : IsAlone laid len (slot_dart l x w o) w o = search rules in
+      model.alone (slot_dart l x w o) (at_is l x laid.paved len w o is less) (λ e. alone_not_across laid len e s)
+
+  module _ (laws : IsQuadManifold (half_edges F)) where
+    prev_cell : {d : CellDart} → IsDart l x d → prev_of (cell d) ≡ cell (prev d)
+    prev_cell {d} is = cc (next_prev d, model.turned (prev d) (prev_is l x d is), laws.prev_next (cell (prev d)))
+
+    turn_twin : {d e : CellDart} → IsDart l x d → IsAcross l x laid len (prev d) e
+        → twin_of F (prev_of (cell d)) ≡ Some (cell e)
+    turn_twin {d} {e} is a = ap (twin_of F) (prev_cell is) ∙ model.across (prev d) e (prev_is l x d is) a
+
+    -- Where four turns lead back, the vertex is regular.
+    cross_at : {d a b c : CellDart} → IsAcross l x laid len (prev d) a → IsAcross l x laid len (prev a) b → IsAcross l x
+        laid len (prev b) c → IsAcross l x laid len (prev c) d → d ≢ b → is_regular F (from_of F (cell d)) ≡ true
+    cross_at {d} {a} {b} {c} i j k m apart = cross_regular F laws (cell d) (model.low d m.is_dart) (
+      cell a,
+      cell b,
+      cell c,
+      search (rules, turn_twin, model.same),
+    )
+
+    pub inside_regular : (p i j : ℕ) (e : CellDart) → IsPoint l x (inside p i j) → IsDart l x e
+        → dart_start l x e ≡ inside p i j → is_regular F (from_of F (cell e)) ≡ true
+    inside_regular p i j e (p_low, i_some, i_low, j_some, j_low) is_e leaves =
+        let is : IsDart l x (dart p i j south) = record { patch_low = p_low; i_low = i_low; j_low = j_low } in
+        let same = model.alike e (dart p i j south) is_e is (leaves
+        ∙ sym (point_inside l x laid len p i j i_some i_low j_some j_low)) in
+        rw same (cross_at (across_within laid len (dart p i j west) (p_low, i_some, i_low, j_low))
+        (across_within laid len (dart p (i - 1) j south) (p_low, omega arith, j_some, j_low))
+        (across_within laid len (dart p (i - 1) (j - 1) east) (p_low, omega arith, omega arith, omega arith))
+        (subst (IsAcross l x laid len (dart p (i - 1 + 1) (j - 1) north)) (dart_is p south (omega arith) (omega arith))
+        (across_within laid len (dart p (i - 1 + 1) (j - 1) north) (p_low, omega arith, omega arith, omega arith)))
+        (search rules))
+
+    pub along_regular : (a k : ℕ) (e : CellDart) → IsPoint l x (along a k) → IsDart l x e → dart_start l x e ≡ along a k
+        → is_regular F (from_of F (cell e)) ≡ true
+    along_regular a k e (low, some, less) is_e leaves =
+        let (w, is_w, used) = laid.forward a low in
+        let long = ap (λ (u : SideArc). x u.arc) used in
+        let w_less : k < x (use_of l w).arc = omega (arith, long) in
+        let is = at_is l x laid.paved len w k is_w w_less in
+        let same = model.alike e (slot_dart l x w k) is_e is (leaves ∙ sym (search (rules, at_from, arc_inner))) in
+        let turn = rim_turn laid len w k is_w w_less (omega arith) in
+        rw same (elim (laid.other w is_w) [
+          | inl (u, other) ↦
+              let both = ap x other.1.arc in
+              let u_less : x (use_of l w).arc - k < x (use_of l u).arc = omega arith in
+              cross_at turn (border_turn laid len w u k (x (use_of l w).arc - k) is_w other some w_less refl)
+              (rim_turn laid len u (x (use_of l w).arc - k) other.0 u_less (omega arith))
+              (border_turn laid len u w (x (use_of l w).arc - k) k other.0 (
+                is_w,
+                search rules,
+              ) (omega arith) u_less (omega arith)) (search (rules, rim_slot))
+          | inr none ↦ edge_regular F laws (cell (slot_dart l x w k)) (cell (spot_dart l x w k true)) (model.low _ is)
+              (turn_twin is turn) (ap (twin_of F) (search (rules, prev_cell, spot_back))
+              ∙ alone_twin w (k - 1) is_w (omega arith) none) (alone_twin w k is_w w_less none)
+        ])
+
   -- Vertex v of the model is point a.
   pub record IsVertex (a : Point) (v : ℕ) : Type 0 where
     pub there : (d : CellDart) → IsDart l x d → dart_start l x d ≡ a → from_of F (cell d) ≡ v
@@ -191,19 +179,13 @@ module _ {l : Gluing} {x : Lengths} {laid : IsSurface l} {len : AreLengths l x} 
         by_end : (d : CellDart) → IsDart l x d → {k : ℕ} → cell d ≡ k → {w : Slot} {o : ℕ} → IsAlone laid len d w o
             → (from_of F k ≡ v) ⊎ (to_of F k ≡ v) → (start_node l (use_of l w) ≡ n) ⊎ (end_node l (use_of l w) ≡ n)
         by_end d is same {w} {o} s (inl e) =
-            let leaves = is_v.back d is (cc) in
             let at = at_from l x laid len w o s.on_border.is_slot s.on_border.low in
-            let dart = s.on_border.dart in
-            elim (use_sort l x (use_of l w) o s.on_border.low) [ inl (z, b) ↦ inl (cc) | inr (some, b) ↦ absurd cc ]
+            use_node l x (use_of l w) {o = o} (omega (arith, s.on_border.low))
+            (cc (is_v.back d is (cc), s.on_border.dart))
         by_end d is same {w} {o} s (inr e) =
             let arrives = is_v.back (next d) (next_is l x d is) (cc (model.turned d is)) in
             let at = at_to l x laid len w o s.on_border.is_slot s.on_border.low in
-            let dart = s.on_border.dart in
-            elim (cases_eq (o + 1) (x (use_of l w).arc)) [
-              | inl last ↦ let b = use_ends l x (use_of l w) (o + 1) last (omega arith) in inr (cc)
-              | inr less ↦
-                  let b = use_inner l x (use_of l w) (o + 1) (omega arith) (omega (arith, s.on_border.low)) in absurd cc
-            ]
+            use_node l x (use_of l w) {o = o + 1} (omega (arith, s.on_border.low)) (cc s.on_border.dart)
 
     inner_only : is_inner F v ≡ true → AreShared l n
     inner_only inner w is ends = elim (laid.other w is) [
@@ -225,7 +207,7 @@ module _ {l : Gluing} {x : Lengths} {laid : IsSurface l} {len : AreLengths l x} 
         alone o less none at =
             let is_d = at_is l x laid.paved len w o is less in
             let t = MeshFans.inner_twin F v inner _ (model.low _ is_d) (at is_d) in
-            none-some t.0 (cc (alone_twin model w o is less none))
+            none-some t.0 (cc (alone_twin w o is less none))
 
     -- The darts that leave it, by slot.
     by_spot : AreNumbers (λ (t : Slot × Bool). IsNodeSpot l n t.0 t.1) (λ t. cell (spot_dart l x t.0 0 t.1))
@@ -233,12 +215,8 @@ module _ {l : Gluing} {x : Lengths} {laid : IsSurface l} {len : AreLengths l x} 
     by_spot = record {
       each = λ t s.
           let i = node_spot laid len s in
-          let leaves : dart_start l x (spot_dart l x t.0 0 t.1) ≡ node n = cc (
-            spot_from l x laid len i.1,
-            use_begins l x (use_of l t.0) (use_some l x laid.paved len t.0 s.is_slot),
-            s.start,
-          ) in
-          (model.low _ i.0, eq-eqb _ _ (is_v.there _ i.0 leaves));
+          let begins = use_begins l x (use_of l t.0) i.1.low in
+          (model.low _ i.0, eq-eqb _ _ (is_v.there _ i.0 (cc (spot_from l x laid len i.1, s.start))));
       onto = λ k low on.
           let (d, is_d, same) = model.onto k low in
           let (w, b, s, i) = node_sort laid len n is_d (is_v.back d is_d (cc (eqb-true (from_of F k) v on))) in

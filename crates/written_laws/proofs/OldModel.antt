@@ -1,7 +1,7 @@
 -- A gluing that lies in a mesh is laid.
 use Rattle.std.proofs.Common.{rules, ◌≡◌, ℕ, ◌-◌, ◌<◌, Bool, true, false, Some, refl, sym, ◌∙◌, ap, arith, inl, inr}
 use Rattle.std.proofs.Common.{◌⊎◌, zero, suc, not, length, None, subst}
-use Rattle.std.proofs.{lemmas.Bool.cases_Bool, lemmas.Bool.cond-false, lemmas.Option.none-some}
+use Rattle.std.proofs.{lemmas.Bool.cases_Bool}
 use Rattle.def_mesh.specs.HalfEdges.{HalfEdges, IsQuadManifold, AreTurned, half_edges, Turns as MeshTurns}
 use Rattle.def_mesh.specs.{Faces.Faces, Faces.face_at, Manifold.IsManifold}
 use Rattle.def_layout.specs.Gluings.{Way, south, west, side_before, Gluing, Slot, IsSlot, AreReverse, use_of}
@@ -31,16 +31,16 @@ module _ (m : HalfEdges) (laws : IsQuadManifold m) (l : Gluing) (x : Lengths) (p
   pub over_twin : (w v : Slot) (o : ℕ) → IsSlot l w → IsOtherSlot l w v → o < x (use_of l w).arc
       → m.twin (cell (slot_dart l x w o)) ≡ Some (cell (slot_dart l x v (x (use_of l w).arc - 1 - o)))
   over_twin w v o is other less = elim (cases_Bool (use_of l w).forward) [
-    | inl e ↦ search rules
+    | inl e ↦ let k_low = ap x other.1.arc in search rules
     | inr e ↦
-        let on : (use_of l v).forward ≡ true = cc in
-        let there = s.ahead v _ other.0 k_low on ∙ ap (λ a. arc_dart a (x (use_of l w).arc - 1 - o)) other.1.arc in
-        cc (laws.twin_twin (arc_dart (use_of l w).arc (x (use_of l w).arc - 1 - o)) (cell (slot_dart l x w o))
-        (search rules) (s.behind w o is less e))
+        let k_low : x (use_of l w).arc - 1 - o < x (use_of l v).arc = omega (arith, ap x other.1.arc) in
+        let there = s.ahead v _ other.0 k_low (cc) in
+        cc (
+          other.1.arc,
+          laws.twin_twin (arc_dart (use_of l w).arc (x (use_of l w).arc - 1 - o))
+              (cell (slot_dart l x w o)) (search rules) (s.behind w o is less e),
+        )
   ]
-    where
-      k_low : x (use_of l w).arc - 1 - o < x (use_of l v).arc
-      k_low = omega (arith, ap x other.1.arc)
 
   -- Darts of the mesh that leave one vertex.
   abbrev pub AreFromOne : (d e : CellDart) → Type 0
@@ -78,18 +78,10 @@ module _ (m : HalfEdges) (laws : IsQuadManifold m) (l : Gluing) (x : Lengths) (p
         | inl e ↦ search rules
         | inr e ↦
             let first : x (use_of l w).arc - 1 - 0 ≡ x (use_of l w).arc - 1 = omega arith in
-            let last : x (use_of l w).arc - 1 - (x (use_of l w).arc - 1) ≡ 0 = omega arith in (
-              cc (
-                (laws.twin_ends _ _ (s.arc_low a (x a - 1) low less) (rw first at (s.behind w 0 is (some is) e))).0,
-                s.last_at a low,
-                cond-false (use_of l w).forward (l.first a) (l.last a) e,
-              ),
-              cc (
-                (laws.twin_ends _ _ (s.arc_low a 0 low (some is)) (rw last at (s.behind w (x a - 1) is less e))).1,
-                s.first_at a low,
-                cond-false (use_of l w).forward (l.last a) (l.first a) e,
-              ),
-            )
+            let last : x (use_of l w).arc - 1 - (x (use_of l w).arc - 1) ≡ 0 = omega arith in
+            let t = laws.twin_ends _ _ (s.arc_low a (x a - 1) low less) (rw first at (s.behind w 0 is (some is) e)) in
+            let u = laws.twin_ends _ _ (s.arc_low a 0 low (some is)) (rw last at (s.behind w (x a - 1) is less e)) in
+            search (rules, t, u, s.last_at, s.first_at)
       ]
 
   pub starts : (w : Slot) → IsSlot l w → m.from (cell (slot_dart l x w 0)) ≡ vertex (start_node l (use_of l w))
@@ -101,13 +93,7 @@ module _ (m : HalfEdges) (laws : IsQuadManifold m) (l : Gluing) (x : Lengths) (p
   once : (v w : Slot) → IsSlot l v → IsSlot l w → use_of l v ≡ use_of l w → v ≡ w
   once v w is_v is_w same = rim_slot paved len is_v is_w (some is_v) (some is_w)
       (s.same _ _ (at_is l x paved len v 0 is_v (some is_v)) (at_is l x paved len w 0 is_w (some is_w))
-      (elim (cases_Bool (use_of l v).forward) [
-        | inl e ↦ cc (s.ahead v 0 is_v (some is_v) e, s.ahead w 0 is_w (some is_w) (ap forward (sym same) ∙ e))
-        | inr e ↦ cc (s.behind v 0 is_v (some is_v) e, s.behind w 0 is_w (some is_w) (ap forward (sym same) ∙ e))
-      ]))
-    where
-      forward : SideArc → Bool
-      forward u = u.forward
+      (search (rules, cases_Bool (use_of l v).forward, s.ahead, s.behind v 0, s.behind w 0, some)))
 
   meet : (w : Slot) → IsSlot l w → end_node l (use_before l w) ≡ start_node l (use_of l w)
   meet w is =
@@ -135,80 +121,65 @@ module _ (m : HalfEdges) (laws : IsQuadManifold m) (l : Gluing) (x : Lengths) (p
   pub laid_in : IsSurface l
   laid_in = search (rules, once, meet, no_fold)
 
--- A mesh in which a gluing lies is a model of it at the old lengths, and the gluing has fans.
-
-module _ (faces : Faces) (manifold : IsManifold faces) (l : Gluing) (x : Lengths) (paved : HasWholeSides l)
-    (len : AreLengths l x) (cell : CellDart → ℕ) (vertex : ℕ → ℕ) (arc_dart : ℕ → ℕ → ℕ)
-    (s : IsEmbedding (half_edges faces) l x cell vertex arc_dart) where
-  abbrev m : HalfEdges
-  m = half_edges faces
-
-  laws : IsQuadManifold (half_edges faces)
-  laws = manifold_law faces manifold
-
-  abbrev pub old_laid : IsSurface l
-  old_laid = laid_in _ (manifold_law faces manifold) l x paved len cell _ _ s
-
+  -- The mesh is a model of the gluing at these lengths, and the gluing has fans.
   alike : (d e : CellDart) → IsDart l x d → IsDart l x e → dart_start l x d ≡ dart_start l x e
       → m.from (cell d) ≡ m.from (cell e)
-  alike = point_related old_laid len (from_turning m laws l x paved len cell _ _ s) (λ v w is_v is_w same. starts m laws
-      l x paved len cell _ _ s v is_v ∙ ap vertex same ∙ sym (starts m laws l x paved len cell _ _ s w is_w))
+  alike = point_related laid_in len from_turning
+      (λ v w is_v is_w same. starts v is_v ∙ ap vertex same ∙ sym (starts w is_w))
 
-  across_twin : (d e : CellDart) → IsDart l x d → IsAcross l x old_laid len d e → m.twin (cell d) ≡ Some (cell e)
+  across_twin : (d e : CellDart) → IsDart l x d → IsAcross l x laid_in len d e → m.twin (cell d) ≡ Some (cell e)
   across_twin d e is a = laws.twin_found _ _ (s.low d is) (s.low e a.is_dart)
-      (cc (alike e (next d) a.is_dart (next_is l x d is) (across_ends old_laid len is a).0, s.turned d))
-      (cc (s.turned e, alike (next e) d (next_is l x e a.is_dart) is (across_ends old_laid len is a).1))
+      (cc (alike e (next d) a.is_dart (next_is l x d is) (across_ends laid_in len is a).0, s.turned d))
+      (cc (s.turned e, alike (next e) d (next_is l x e a.is_dart) is (across_ends laid_in len is a).1))
 
   -- Where no slot uses an arc the other way round, its darts have no twin.
-  alone_twin : {d : CellDart} {w : Slot} {o : ℕ} → IsAlone old_laid len d w o → m.twin (cell d) ≡ None
+  alone_twin : {d : CellDart} {w : Slot} {o : ℕ} → IsAlone laid_in len d w o → m.twin (cell d) ≡ None
   alone_twin {w} {o} a =
-      let first = s.forward _ (paved.arc_low w a.on_border.is_slot) in
-      let ahead = sym (alike first.0 first.1 (ap (λ (u : SideArc). u.arc) first.2))
-      ∙ ap (λ (u : SideArc). u.forward) first.2 in
+      let low = paved.arc_low w a.on_border.is_slot in
+      let (v, is_v, used) = s.forward _ low in
+      let ahead : (use_of l w).forward ≡ true = cc (alike v is_v (cc)) in
       cc (
         s.ahead w o a.on_border.is_slot a.on_border.low ahead,
-        s.alone (use_of l w).arc o
-            (paved.arc_low w a.on_border.is_slot) a.on_border.low (λ v is_v arc. alike v is_v arc ∙ ahead),
+        s.alone (use_of l w).arc o low a.on_border.low (λ v is_v arc. alike v is_v arc ∙ ahead),
       )
     where
       alike : (v : Slot) → IsSlot l v → (use_of l v).arc ≡ (use_of l w).arc
           → (use_of l v).forward ≡ (use_of l w).forward
       alike v is_v arc = elim (alike_or_turned _ _) [ inl same ↦ sym same | inr turned ↦ search rules ]
 
-  alone : (d : CellDart) → IsDart l x d → ((e : CellDart) → ¬ IsAcross l x old_laid len d e) → m.twin (cell d) ≡ None
-  alone d is none = elim (across_or_alone old_laid len d is) [ inl a ↦ absurd (none a.0 a.1) | inr a ↦ alone_twin a.2 ]
+  alone : (d : CellDart) → IsDart l x d → ((e : CellDart) → ¬ IsAcross l x laid_in len d e) → m.twin (cell d) ≡ None
+  alone d is none = elim (across_or_alone laid_in len d is) [ inl a ↦ absurd (none a.0 a.1) | inr a ↦ alone_twin a.2 ]
 
   -- What the mesh tells to be the twin lies across.
   pub twin_is_across : (d e : CellDart) → IsDart l x d → IsDart l x e → m.twin (cell d) ≡ Some (cell e)
-      → IsAcross l x old_laid len d e
-  twin_is_across d e is_d is_e twin = elim (across_or_alone old_laid len d is_d) [
-    | inl a ↦ subst (IsAcross l x old_laid len d)
-        (s.same a.0 e a.1.is_dart is_e (cc (across_twin d a.0 is_d a.1, twin))) a.1
-    | inr a ↦ absurd (none-some (cell e) (cc (alone_twin a.2, twin)))
+      → IsAcross l x laid_in len d e
+  twin_is_across d e is_d is_e twin = elim (across_or_alone laid_in len d is_d) [
+    | inl a ↦ rw (s.same a.0 e a.1.is_dart is_e (cc (across_twin d a.0 is_d a.1))) at a.1
+    | inr a ↦ absurd (cc (alone_twin a.2))
   ]
 
   prev_cell : (d : CellDart) → m.prev (cell d) ≡ cell (prev d)
   prev_cell d = cc (next_prev d, s.turned (prev d), laws.prev_next (cell (prev d)))
 
-  turned_point : (d e : CellDart) → IsDart l x d → IsDart l x e → AreTurned (half_edges faces) (cell d) (cell e)
+  turned_point : (d e : CellDart) → IsDart l x d → IsDart l x e → AreTurned m (cell d) (cell e)
       → dart_start l x d ≡ dart_start l x e
-  turned_point d e is_d is_e t = elim t [ inl t ↦ sym (point d e is_d is_e t) | inr t ↦ point e d is_e is_d t ]
+  turned_point d e is_d is_e t = search (rules, point d e is_d is_e, point e d is_e is_d)
     where
       point : (d e : CellDart) → IsDart l x d → IsDart l x e → m.twin (m.prev (cell d)) ≡ Some (cell e)
           → dart_start l x e ≡ dart_start l x d
       point d e is_d is_e t =
           let is = prev_is l x d is_d in
           let a = twin_is_across (prev d) e is is_e (cc (prev_cell d)) in
-          (across_ends old_laid len is a).0 ∙ ap (dart_start l x) (next_prev d)
+          let ends = across_ends laid_in len is a in cc (next_prev d)
 
-  turns_low : (d e n : ℕ) → d < m.count → MeshTurns (half_edges faces) d e n → e < m.count
+  turns_low : (d e n : ℕ) → d < m.count → MeshTurns m d e n → e < m.count
   turns_low d e zero low t = rw (← t) low
   turns_low d e (suc n) low t = t.2
 
   -- What a turn of the mesh keeps, turns keep.
   turned_on : (P : CellDart → Type 0) → ((c e : CellDart) → IsDart l x c → IsDart l x e
-      → AreTurned (half_edges faces) (cell c) (cell e) → P c → P e) → {d : CellDart} → IsDart l x d → P d → (n : ℕ)
-      → (e : CellDart) → IsDart l x e → MeshTurns (half_edges faces) (cell d) (cell e) n → P e
+      → AreTurned m (cell c) (cell e) → P c → P e) → {d : CellDart} → IsDart l x d → P d → (n : ℕ)
+      → (e : CellDart) → IsDart l x e → MeshTurns m (cell d) (cell e) n → P e
   turned_on P step {d} is_d start zero e is_e t = subst P (s.same d e is_d is_e t) start
   turned_on P step {d} is_d start (suc n) e is_e t =
       let (c, is_c, same) = s.onto t.0 (turns_low (cell d) t.0 n (s.low d is_d) t.1) in
@@ -219,9 +190,6 @@ module _ (faces : Faces) (manifold : IsManifold faces) (l : Gluing) (x : Lengths
   apart d e is_d is_e same =
       let t = laws.one_fan _ _ (s.low d is_d) (s.low e is_e) same in
       turned_on (λ c. dart_start l x d ≡ dart_start l x c) (search (rules, turned_point)) is_d refl t.0 e is_e t.1
-
-  pub old_model : ((f : ℕ) → f < length faces → length (face_at faces f) ≡ 4) → IsModel faces l x old_laid len cell
-  old_model quads = search (rules, alike, apart, across_twin, alone)
 
   -- A turn of the mesh at a node stays at a slot, or is a turn of the gluing.
   slot_turn : {d e : CellDart} {w u : Slot} {b c : Bool} → IsDart l x d → IsDart l x e → IsSpot l x d w 0 b
@@ -238,56 +206,63 @@ module _ (faces : Faces) (manifold : IsManifold faces) (l : Gluing) (x : Lengths
             elim (s.other before is_b) [
               | inl (v, o) ↦
                   let zero_is : x (use_of l before).arc - 1 - (x (use_of l before).arc - 1) ≡ 0 = omega arith in
-                  let t = rw zero_is at (over_twin m laws l x paved len cell vertex arc_dart s before v _ is_b o less)
-                  in
-                  let v_some = use_some l x paved len v o.0 in
-                  let there = s.same e (slot_dart l x v 0) is_e (at_is l x paved len v 0 o.0 v_some)
+                  let t = rw zero_is at (over_twin before v _ is_b o less) in
+                  let there = s.same e (slot_dart l x v 0) is_e (at_is l x paved len v 0 o.0 (some o.0))
                   (cc (prev_cell d)) in
-                  let at_v = (spot_is l x old_laid len {o = 0} false o.0 v_some (λ q. absurd cc)).1 in
-                  let at_e : IsSpot l x e v 0 false = rw there at_v in
-                  let one = (spot_once paved len at_u at_e).0 in
-                  inr (record { is_slot = at_u.is_slot; reverse = rw one o.1 })
+                  let at_e : IsSpot l x e v 0 false = search (rules, some) in
+                  inr (record { is_slot = at_u.is_slot; reverse = rw (spot_once paved len at_u at_e).0 o.1 })
               | inr none ↦ search (rules, alone_twin, dart, alone, prev_cell)
             ]
         | inr other ↦ elim (cases_Bool b) [
           | inl on ↦ absurd (omega (arith, at_w.behind on, ap (reach l x w.patch w.side) (first (other ∙ ap not on))))
           | inr off ↦
               let far = spot.behind (other ∙ ap not off) in
-              let a = rim_turn old_laid len w 0 at_w.is_slot at_w.low far in
+              let a = rim_turn laid_in len w 0 at_w.is_slot at_w.low far in
               let t = across_twin (prev (slot_dart l x w 0)) _ (search (rules, prev_is, at_is)) a in
               let one = s.same e (spot_dart l x w 0 true) is_e a.is_dart (cc (prev_cell d)) in
-              let there = (spot_is l x old_laid len {o = 0} true at_w.is_slot at_w.low (λ q. far)).1 in
-              let at_e : IsSpot l x e w 0 true = rw one there in
+              let at_e : IsSpot l x e w 0 true = search rules in
               inl (sym (spot_once paved len at_u at_e).0)
         ]
       ]
 
   -- The turns of the mesh round a node are turns of the gluing.
-  pub old_fans : HasFans l
-  old_fans v w is_v is_w same =
-      let a = spot_is l x old_laid len {o = 0} false is_v (use_some l x paved len v is_v) (λ e. absurd cc) in
-      let b = spot_is l x old_laid len {o = 0} false is_w (use_some l x paved len w is_w) (λ e. absurd cc) in
-      let t = laws.one_fan _ _ (s.low _ a.0) (s.low _ b.0) (cc (
-        starts m laws l x paved len _ vertex _ s v is_v,
-        starts m laws l x paved len cell _ arc_dart s w is_w,
-      )) in
+  fans_in : HasFans l
+  fans_in v w is_v is_w same =
+      let a = spot_is l x laid_in len {o = 0} false is_v (some is_v) (λ e. absurd cc) in
+      let b = spot_is l x laid_in len {o = 0} false is_w (some is_w) (λ e. absurd cc) in
+      let t = laws.one_fan _ _ (s.low _ a.0) (s.low _ b.0) (cc (starts v is_v, starts w is_w)) in
       turned_on _ step a.0 (λ u b at. (zero, (spot_once paved len a.1 at).0)) t.0 _ b.0 t.1 w false b.1
     where
-      step : (c e : CellDart) → IsDart l x c → IsDart l x e → AreTurned (half_edges faces) (cell c) (cell e)
+      step : (c e : CellDart) → IsDart l x c → IsDart l x e → AreTurned m (cell c) (cell e)
           → ((u : Slot) (b : Bool) → IsSpot l x c u 0 b → (k : ℕ) × SlotTurns l v u k)
           → (u : Slot) (b : Bool) → IsSpot l x e u 0 b → (k : ℕ) × SlotTurns l v u k
       step c e is_c is_e turned before u b at_u =
-          let leaves = turned_point c e is_c is_e turned ∙ spot_from l x old_laid len at_u
+          let leaves = turned_point c e is_c is_e turned ∙ spot_from l x laid_in len at_u
           ∙ use_begins l x (use_of l u) at_u.low in
-          let (z, i, node, at_z) = node_sort old_laid len _ is_c leaves in
+          let (z, i, node, at_z) = node_sort laid_in len _ is_c leaves in
           let r = before z i at_z in
-          elim turned [
-            | inl twin ↦ elim (slot_turn is_c is_e at_z at_u twin) [
-              | inl one ↦ (r.0, subst (λ (y : Slot). SlotTurns l v y r.0) one r.1)
-              | inr turn ↦ (suc r.0, (z, at_z.is_slot, r.1, inl turn))
-            ]
-            | inr twin ↦ elim (slot_turn is_e is_c at_u at_z twin) [
-              | inl one ↦ (r.0, subst (λ (y : Slot). SlotTurns l v y r.0) (sym one) r.1)
-              | inr turn ↦ (suc r.0, (z, at_z.is_slot, r.1, inr turn))
-            ]
+          let t : (z ≡ u) ⊎ (IsTurn l z u ⊎ IsTurn l u z) =
+          search (rules, slot_turn is_c is_e at_z at_u, slot_turn is_e is_c at_u at_z) in elim t [
+            | inl one ↦ (r.0, subst (λ (y : Slot). SlotTurns l v y r.0) one r.1)
+            | inr turn ↦ (suc r.0, (z, at_z.is_slot, r.1, turn))
           ]
+
+module _ (faces : Faces) (manifold : IsManifold faces) (l : Gluing) (x : Lengths) (paved : HasWholeSides l)
+    (len : AreLengths l x) (cell : CellDart → ℕ) (vertex : ℕ → ℕ) (arc_dart : ℕ → ℕ → ℕ)
+    (s : IsEmbedding (half_edges faces) l x cell vertex arc_dart) where
+  abbrev pub old_laid : IsSurface l
+  old_laid = laid_in _ (manifold_law faces manifold) l x paved len cell _ _ s
+
+  pub old_model : ((f : ℕ) → f < length faces → length (face_at faces f) ≡ 4) → IsModel faces l x old_laid len cell
+  old_model quads =
+      let laws = manifold_law faces manifold in
+      search (
+        rules,
+        alike _ laws l x paved len _ _ _ s,
+        apart _ laws l x paved len _ _ _ s,
+        across_twin _ laws l x paved len _ _ _ s,
+        alone _ laws l x paved len _ _ _ s,
+      )
+
+  pub old_fans : HasFans l
+  old_fans = fans_in _ (manifold_law faces manifold) l x paved len cell _ _ s

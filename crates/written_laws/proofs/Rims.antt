@@ -1,6 +1,6 @@
 -- The points of a patch: its sides, corners included, and its inside.
-use Rattle.std.proofs.Common.{rules, ◌≡◌, ℕ, ◌-◌, ◌<◌, ◌≤◌, sym, ◌∙◌, ap, inl, inr, arith, ◌≢◌, ◌⊎◌, ◌+◌, refl}
-use Rattle.std.proofs.lemmas.Bool.{cases_eq}
+use Rattle.std.proofs.Common.{rules, ◌≡◌, ℕ, ◌-◌, ◌<◌, ◌≤◌, sym, ◌∙◌, ap, inl, inr, arith, ◌≢◌, ◌⊎◌, ◌+◌, refl, suc}
+use Rattle.std.proofs.{Common.zero, lemmas.Bool.cases_eq}
 use Rattle.def_layout.specs.Gluings.{south, east, north, west, Gluing, Way, side_after, side_before}
 use Rattle.def_layout.specs.{Lengths.Lengths, Lengths.wide, Lengths.high, Lengths.AreLengths, Lengths.size}
 use Rattle.def_layout.specs.{Surfaces.HasWholeSides, Surfaces.IsSurface, Cells.CellDart, Cells.IsDart, Cells.dart}
@@ -22,14 +22,15 @@ module _ (l : Gluing) (x : Lengths) (laid : IsSurface l) (len : AreLengths l x) 
   point_north p i {j} low e = search (rules, high_some)
 
   pub point_west : (p j : ℕ) → p < l.patches → j ≤ high l x p → point l x p 0 j ≡ side_point l x p west (high l x p - j)
-  point_west p j low le = elim (cases_eq j 0) [
-    | inl e ↦ cc (corner_meets l x laid len p west (high l x p - j) low (omega arith))
-    | inr some ↦ elim (cases_eq j (high l x p)) [
-      | inl e ↦ point_north p 0 low e ∙ corner_meets l x laid len p north (wide l x p - 0) low
-          (omega (arith, len.across p low)) ∙ ap (side_point l x p west) (omega arith)
-      | inr less ↦ search rules
-    ]
-  ]
+  point_west p j low le = search (
+    rules,
+    cases_eq j 0,
+    cases_eq j (high l x p),
+    corner_meets l x laid len p west (high l x p - j),
+    point_north p 0,
+    corner_meets l x laid len p north (wide l x p - 0),
+    len.across p,
+  )
 
   pub point_east : (p : ℕ) {i : ℕ} (j : ℕ) → p < l.patches → i ≡ wide l x p → j ≤ high l x p
       → point l x p i j ≡ side_point l x p east j
@@ -135,10 +136,8 @@ module _ {l : Gluing} {x : Lengths} (paved : HasWholeSides l) (len : AreLengths 
   -- A dart lies inside its patch or on the border.
   pub on_rim : (p i j : ℕ) (w : Way) → IsDart l x (dart p i j w) → IsEdge l x (inner_edge p i j w)
       ⊎ ((s : Way) × (t : ℕ) × (t < size l x p s) × (dart p i j w ≡ dart_along l x p s t))
-  on_rim p i j south d = elim (cases_eq j 0) [
-    | inl z ↦ inr (south, i, d.i_low, dart_is p south refl z)
-    | inr some ↦ inl (search rules)
-  ]
+  on_rim p i zero south d = inr (south, i, d.i_low, refl)
+  on_rim p i (suc j) south d = inl (search rules)
   on_rim p i j east d = elim (cases_eq (i + 1) (wide l x p)) [
     | inl z ↦ inr (east, j, omega (arith, len.upright p d.patch_low), dart_is p east (omega arith) refl)
     | inr some ↦ inl (search rules)
@@ -147,10 +146,8 @@ module _ {l : Gluing} {x : Lengths} (paved : HasWholeSides l) (len : AreLengths 
     | inl z ↦ inr (north, wide l x p - 1 - i, search (rules, len.across), search (rules, dart_is, len.across))
     | inr some ↦ inl (search rules)
   ]
-  on_rim p i j west d = elim (cases_eq i 0) [
-    | inl z ↦ inr (west, high l x p - 1 - j, omega arith, dart_is p west z (omega arith))
-    | inr some ↦ inl (search rules)
-  ]
+  on_rim p zero j west d = inr (west, high l x p - 1 - j, omega arith, dart_is p west refl (omega arith))
+  on_rim p (suc i) j west d = inl (search rules)
 
   -- The dart inside that ends at a place of a side, and over it the one next to the border dart before.
   pub rim_within : (p : ℕ) (s : Way) (t : ℕ) → p < l.patches → 0 < t → t < size l x p s → IsWithin l x (prev (dart_along
@@ -165,12 +162,11 @@ module _ {l : Gluing} {x : Lengths} (paved : HasWholeSides l) (len : AreLengths 
 module _ (l : Gluing) (x : Lengths) (laid : IsSurface l) (len : AreLengths l x) where
   pub border_point : (p : ℕ) (s : Way) (t : ℕ) → p < l.patches → t ≤ size l x p s
       → point l x p (side_column l x p s t) (side_row l x p s t) ≡ side_point l x p s t
-  border_point p south t low le = refl
-  border_point p east t low le = search (rules, point_east)
   border_point p north t low le = point_north l x laid len p _ {j = high l x p} low refl
       ∙ ap (side_point l x p north) (omega (arith, len.across p low))
   border_point p west t low le =
       point_west l x laid len p (high l x p - t) low (omega arith) ∙ ap (side_point l x p west) (omega arith)
+  border_point p _ t low le = search (rules, point_east)
 
   pub rim_from : (p : ℕ) (s : Way) (t : ℕ) → p < l.patches → t < size l x p s
       → dart_start l x (dart_along l x p s t) ≡ side_point l x p s t

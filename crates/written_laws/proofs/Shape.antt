@@ -1,5 +1,5 @@
 -- The new mesh has the shape of the old one, and the old one doubles no edge.
-use Rattle.std.proofs.Common.{rules, ◌≡◌, ℕ, ◌<◌, ◌≤◌, false, not, refl, sym, ◌∙◌, ap, inl, inr}
+use Rattle.std.proofs.Common.{rules, ◌≡◌, ℕ, ◌<◌, ◌≤◌, false, refl, sym, ◌∙◌, ap, inl, inr, ◌⊎◌}
 use Rattle.def_mesh.specs.{Faces.Faces, Darts.from_of, Manifold.IsManifold, Vertices.faces_at, Vertices.vertex_count}
 use Rattle.def_mesh.specs.{Kinds.is_inner, Kinds.is_regular, HalfEdges.half_edges, HalfEdges.IsQuadManifold}
 use Rattle.def_layout.specs.Cells.{CellDart, IsDart, next}
@@ -7,9 +7,9 @@ use Rattle.def_layout.specs.{Gluings.Gluing, Gluings.use_of, Surfaces.HasWholeSi
 use Rattle.def_layout.specs.{Lengths.Lengths, Lengths.AreLengths, Embeddings.IsEmbedding}
 use Rattle.def_written.specs.Laws.{LiesInMesh, LaidLaw, NumbersLaw, NewManifoldLaw, KeepsShapeLaw, ThreeLaw}
 use Rattle.def_written.specs.{Laws.MultipleLaw, Numbers.vertices, NewFaces.dart_start, NewFaces.new_faces, Edges.IsEdge}
-use Rattle.def_written.specs.{Edges.IsUndoubled, Shape.IsKeptNode, Shape.KeepsShape}
-use Rattle.def_written.specs.Points.{Point, node, along, inside, IsPoint}
-use Rattle.written_laws.proofs.Courses.{Course, course, against, against_twice, against_ends, start_at, end_at}
+use Rattle.def_written.specs.{NewFaces.dart_end, Edges.IsUndoubled, Shape.IsKeptNode, Shape.KeepsShape}
+use Rattle.def_written.specs.Points.{Point, node, IsPoint}
+use Rattle.written_laws.proofs.Courses.{Course, against, against_twice, against_ends}
 use Rattle.written_laws.proofs.Courses.{course_of, course_from, course_to, edge_dart}
 use Rattle.written_laws.proofs.{Fans.alike_or_turned, Sides.use_some, Sides.use_begins, Between.simple_from}
 use Rattle.written_laws.proofs.ModelCounts.{IsModel, used_dart, point_dart, new_model, euler_is}
@@ -31,44 +31,48 @@ module _ {faces : Faces} (man : IsManifold faces) {l : Gluing} {x : Lengths} (pa
   here = old_laid faces man l x paved len cell _ _ s
 
   module _ (model : IsModel faces l x here len cell) where
-    -- The course of a dart is told by its ends.
-    tell : {d : CellDart} (k : Course) → IsDart l x d → IsEdge l x k.edge → start_at l x (course_of l x d) ≡ start_at l
-        x k → end_at l x (course_of l x d) ≡ end_at l x k → course_of l x d ≡ k
-    tell {d} k is_d is_k starts ends =
-        let (e, is_e, edge) = edge_dart l x here len k.edge is_k in
-        elim (alike_or_turned k.ahead (course_of l x e).ahead) [
-          | inl ways ↦
-              let b : course_of l x e ≡ k = λ t. course (edge t) (sym ways t) in
-              let from = model.alike d e is_d is_e
-              (cc (course_from l x here len d is_d, course_from l x here len e is_e)) in
-              let to = model.alike (next d) (next e) (next_is l x d is_d) (next_is l x e is_e)
-              (cc (course_to l x here len d is_d, course_to l x here len e is_e)) in
-              ap (course_of l x) (model.same d e is_d is_e (man.edges_once (cell d) (cell e) (model.low d is_d)
-              (model.low e is_e) (from, cc (model.turned d is_d, model.turned e is_e)))) ∙ b
-          | inr ways ↦
-              let b : course_of l x e ≡ against k = λ t. course (edge t) (ways t) in
-              let k_ends = against_ends l x k in
-              let to = model.alike e (next d) is_e (next_is l x d is_d)
-              (cc (course_from l x here len e is_e, course_to l x here len d is_d)) in
-              let from = model.alike (next e) d (next_is l x e is_e) is_d
-              (cc (course_to l x here len e is_e, course_from l x here len d is_d)) in
-              let twin = (manifold_law faces man).twin_found (cell d) (cell e) (model.low d is_d) (model.low e is_e)
-              (cc (model.turned d is_d)) (cc (model.turned e is_e)) in
-              let a = twin_is_across faces man l x paved len cell vertex arc_dart s d e is_d is_e twin in
-              sym (against_twice (course_of l x d)) ∙ ap against (sym a.course ∙ b) ∙ against_twice k
-        ]
+    -- Darts with the same ends have one course, and those with exchanged ends run against each other.
+    same_course : {d e : CellDart} → IsDart l x d → IsDart l x e → dart_start l x d ≡ dart_start l x e
+        → dart_end l x d ≡ dart_end l x e → course_of l x d ≡ course_of l x e
+    same_course {d} {e} is_d is_e starts ends =
+        let to = model.alike (next d) (next e) (next_is l x d is_d) (next_is l x e is_e) ends in
+        ap (course_of l x) (model.same d e is_d is_e (man.edges_once (cell d) (cell e) (model.low d is_d)
+        (model.low e is_e) (model.alike d e is_d is_e starts, cc (model.turned d is_d, model.turned e is_e))))
+
+    turned_course : {d e : CellDart} → IsDart l x d → IsDart l x e → dart_start l x e ≡ dart_end l x d
+        → dart_end l x e ≡ dart_start l x d → course_of l x e ≡ against (course_of l x d)
+    turned_course {d} {e} is_d is_e starts ends =
+        let laws = manifold_law faces man in
+        let from = model.alike e (next d) is_e (next_is l x d is_d) starts in
+        let to = model.alike (next e) d (next_is l x e is_e) is_d ends in
+        let twin = laws.twin_found _ _ (model.low d is_d) (model.low e is_e) (cc (model.turned d is_d))
+        (cc (model.turned e is_e)) in
+        (twin_is_across _ laws l x paved len cell vertex arc_dart s d e is_d is_e twin).course
+
+    -- Each course is that of a dart or runs against it.
+    by_dart : (k : Course) → IsEdge l x k.edge
+        → (d : CellDart) × IsDart l x d × ((course_of l x d ≡ k) ⊎ (course_of l x d ≡ against k))
+    by_dart k is =
+        let (d, is_d, edge) = edge_dart l x here len k.edge is in
+        let ways = alike_or_turned k.ahead (course_of l x d).ahead in (d, is_d, search (rules, ways))
 
     pub old_simple : IsSimple l x
     old_simple = simple_by {l = l} {x = x} (λ c k is_c is_k starts ends.
-        let (d, is_d, edge) = edge_dart l x here len c.edge is_c in
-        elim (alike_or_turned c.ahead (course_of l x d).ahead) [
-          | inl ways ↦ search (rules, tell)
-          | inr ways ↦
-              let a : course_of l x d ≡ against c = λ t. course (edge t) (ways t) in
-              let c_ends = against_ends l x c in
-              let k_ends = against_ends l x k in
-              let same = tell (against k) is_d is_k (cc) (cc) in
-              sym (against_twice c) ∙ ap against (sym a ∙ same) ∙ against_twice k
+        let (d, is_d, a) = by_dart c is_c in
+        let (e, is_e, b) = by_dart k is_k in
+        let d_from = course_from l x here len d is_d in
+        let d_to = course_to l x here len d is_d in
+        let e_from = course_from l x here len e is_e in
+        let e_to = course_to l x here len e is_e in
+        let c_ends = against_ends l x c in
+        let k_ends = against_ends l x k in
+        let c_twice = against_twice c in
+        let k_twice = against_twice k in
+        elim a [
+          | inl a ↦
+              elim b [ inl b ↦ cc (same_course is_d is_e (cc) (cc)) | inr b ↦ cc (turned_course is_d is_e (cc) (cc)) ]
+          | inr a ↦
+              elim b [ inl b ↦ cc (turned_course is_d is_e (cc) (cc)) | inr b ↦ cc (same_course is_d is_e (cc) (cc)) ]
         ])
 
 module _ {l : Gluing} {x : Lengths} {laid : IsSurface l} {len : AreLengths l x} {F : Faces} {cell : CellDart → ℕ}
@@ -81,8 +85,7 @@ module _ {l : Gluing} {x : Lengths} {laid : IsSurface l} {len : AreLengths l x} 
       by_point : (a : Point) → dart_start l x d ≡ a → IsPoint l x a → (n : ℕ) × (n < l.nodes)
           × (dart_start l x d ≡ node n)
       by_point (node n) e is_a = (n, is_a, e)
-      by_point (along a k) e is_a = absurd (cc (along_regular model laws a k d is_a is e))
-      by_point (inside p i j) e is_a = absurd (cc (inside_regular model laws p i j d is_a is e))
+      by_point _ e is_a = search (rules, along_regular model laws, inside_regular model laws)
 
 module _ {faces : Faces} {l : Gluing} {x : Lengths} {vertex : ℕ → ℕ} (lies : LiesInMesh faces l x vertex) where
   abbrev the_laid : IsSurface l

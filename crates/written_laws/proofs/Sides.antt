@@ -1,7 +1,7 @@
 -- The points on a side of a patch.
-use Rattle.std.proofs.Common.{rules, ◌≡◌, ◌⊎◌, ℕ, suc, ◌+◌, ◌-◌, ◌<◌, ◌≤◌, cond, ap, inl, inr, arith}
+use Rattle.std.proofs.Common.{rules, ◌≡◌, ◌⊎◌, ℕ, suc, ◌+◌, ◌-◌, ◌<◌, ◌≤◌, cond, inl, inr, arith}
 use Rattle.std.proofs.lemmas.Bool.{cases_eq, cases_lt}
-use Rattle.def_layout.specs.Gluings.{Way, south, east, north, west, side_after, Gluing, Slot, IsSlot, use_of}
+use Rattle.def_layout.specs.Gluings.{Way, side_after, Gluing, Slot, IsSlot, use_of}
 use Rattle.def_layout.specs.Gluings.{start_node, end_node}
 use Rattle.def_layout.specs.{Lengths.Lengths, Lengths.reach, Lengths.size, Lengths.AreLengths}
 use Rattle.def_layout.specs.{declared.tmesh.SideArc.SideArc, Surfaces.HasWholeSides, Surfaces.IsSurface}
@@ -35,6 +35,11 @@ module _ (l : Gluing) (x : Lengths) where
   pub use_sort : (u : SideArc) (o : ℕ) → o < x u.arc → ((o ≡ 0) × (use_point l x u o ≡ node (start_node l u)))
       ⊎ ((0 < o) × (use_point l x u o ≡ along u.arc (cond u.forward o (x u.arc - o))))
   use_sort u o less = search rules
+
+  -- Where a point of it is a node, that is one of its ends.
+  pub use_node : (u : SideArc) {o n : ℕ} → o ≤ x u.arc → use_point l x u o ≡ node n
+      → (start_node l u ≡ n) ⊎ (end_node l u ≡ n)
+  use_node u {o} {n} le e = search rules
 
   -- How long the arc at a place of a side is.
   abbrev pub long_at : (patch : ℕ) (side : Way) (at : ℕ) → ℕ
@@ -84,29 +89,21 @@ module _ (l : Gluing) (x : Lengths) where
     pub side_end : (p : ℕ) (s : Way) (t : ℕ) → p < l.patches → t ≡ size l x p s
         → side_point l x p s t ≡ node (end_node l (l.use_at p s (l.many p s - 1)))
     side_end p s t low e =
-        let long : reach l x p s (l.many p s - 1) + long_at p s (l.many p s - 1) ≡ size l x p s = last_reach p s low in
-        let some : 0 < long_at p s (l.many p s - 1) = use_some (slot p s (l.many p s - 1)) (last_slot p s low) in
-        search (rules, run_last)
+        let long = last_reach p s low in
+        let some = use_some (slot p s (l.many p s - 1)) (last_slot p s low) in search (rules, run_last)
 
     -- The slot at the beginning of a side is its first one.
     pub first_is : (v : Slot) → IsSlot l v → reach l x v.patch v.side v.at ≡ 0 → v.at ≡ 0
-    first_is v is none = elim (cases_eq v.at 0) [
-      | inl e ↦ e
-      | inr later ↦
-          let before : IsSlot l (slot v.patch v.side (v.at - 1)) = search rules in
-          let at : suc (v.at - 1) ≡ v.at = omega arith in
-          absurd (omega (arith, use_some _ before, ap (reach l x v.patch v.side) at))
-    ]
+    first_is v is none =
+        let at : 0 < v.at → suc (v.at - 1) ≡ v.at = λ some. omega arith in
+        search (rules, at, cases_eq v.at 0, use_some (slot v.patch v.side (v.at - 1)))
 
     -- The slot at the end of a side is its last one.
     pub last_is : (w : Slot) → IsSlot l w → size l x w.patch w.side ≤ reach l x w.patch w.side w.at + x (use_of l w).arc
         → w.at ≡ l.many w.patch w.side - 1
-    last_is w is end = elim (cases_lt (suc w.at) (l.many w.patch w.side)) [
-      | inl more ↦
-          let later : IsSlot l (slot w.patch w.side (suc w.at)) = record { patch_low = is.patch_low; low = more } in
-          search (rules, reach_low)
-      | inr none ↦ omega (arith, is.low, none)
-    ]
+    last_is w is end =
+        let later = slot w.patch w.side (suc w.at) in
+        search (rules, reach_low later, use_some later, cases_lt (suc w.at) (l.many w.patch w.side))
 
   module _ (laid : IsSurface l) (len : AreLengths l x) where
     -- A side ends where the next one begins.
@@ -116,13 +113,9 @@ module _ (l : Gluing) (x : Lengths) where
         let first = first_slot laid.paved len p (side_after s) low in
         let some = use_some laid.paved len (slot p (side_after s) 0) first in
         let begins = use_begins (l.use_at p (side_after s) 0) some in
-        cc (side_end laid.paved len p s t low e, at s, side_in 0 first some, begins)
-      where
-        at : (s : Way) → end_node l (l.use_at p s (l.many p s - 1)) ≡ start_node l (l.use_at p (side_after s) 0)
-        at south = laid.meet _ (first_slot laid.paved len p east low)
-        at east = laid.meet _ (first_slot laid.paved len p north low)
-        at north = laid.meet _ (first_slot laid.paved len p west low)
-        at west = laid.meet _ (first_slot laid.paved len p south low)
+        let at : end_node l (l.use_at p s (l.many p s - 1)) ≡ start_node l (l.use_at p (side_after s) 0) =
+        search (rules, laid.meet (slot p (side_after s) 0) first) in
+        cc (side_end laid.paved len p s t low e, side_in 0 first some)
 
     -- The points of an arc on a side, its end included.
     pub side_upto : (w : Slot) (o t : ℕ) → IsSlot l w → o ≤ x (use_of l w).arc → t ≡ reach l x w.patch w.side w.at + o
@@ -133,8 +126,7 @@ module _ (l : Gluing) (x : Lengths) where
           let ends = use_ends (use_of l w) o (omega arith) (omega (arith, use_some laid.paved len w is)) in
           elim (cases_lt (suc w.at) (l.many w.patch w.side)) [
             | inl another ↦
-                let next : IsSlot l (slot w.patch w.side (suc w.at)) =
-                record { patch_low = is.patch_low; low = another } in
+                let next : IsSlot l (slot w.patch w.side (suc w.at)) = search rules in
                 let same : t ≡ reach l x w.patch w.side (suc w.at) + 0 = omega arith in
                 let some = use_some laid.paved len (slot w.patch w.side (suc w.at)) next in
                 cc (side_in 0 next some, use_begins (l.use_at w.patch w.side (suc w.at)) some, laid.meet _ next, ends)

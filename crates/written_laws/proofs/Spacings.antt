@@ -1,29 +1,25 @@
 -- Laws of runs laid end to end.
 use Rattle.std.proofs.Common.{rules, ◌≡◌, ℕ, zero, suc, ◌+◌, ◌-◌, ◌*◌, ◌/◌, ◌%◌, ◌<◌, ◌≤◌, sym, ◌∙◌, ap, inl, inr}
 use Rattle.std.proofs.Common.{arith, Bool, true, false, refl, [], ◌≢◌, cond, ◌∷◌, length}
-use Rattle.std.proofs.lemmas.Bool.{cases_eq, cond_both, cond-false, ltb-true, eqb-false, eqb-true, ne_eqb, cases_Bool}
+use Rattle.std.proofs.lemmas.Bool.{cases_eq, cond-false, ne_eqb, cases_Bool}
 use Rattle.std.proofs.Math.Nat.{mod-lt, div-lt_iff_lt-mul, mul_comm}
 use Rattle.std.proofs.lemmas.{Nat.mul-add-lt, Nat.same_from_place, Nat.div-mul-add, Nat.mul-le, List.length-append}
-use Rattle.std.specs.{Prelude.nat_lt, Prelude.◌==◌, List.filter, List.range_with_len}
+use Rattle.std.specs.{Prelude.◌==◌, List.filter, List.range_with_len}
 use Rattle.sum_laws.proofs.Sums.{count_below_ones, count_below_same}
 use Rattle.def_layout.specs.{Gluings.Gluing, Lengths.Lengths, Lengths.AreLengths}
-use Rattle.def_written.specs.Spacings.{edge_begin, inner_step, shared_parameter, shared_step, step_parameter, Shares}
+use Rattle.def_written.specs.Spacings.{inner_step, shared_parameter, shared_step, step_parameter, Shares, counted}
 use Rattle.def_written.specs.{Laws.EvenSpacingLaw, Laws.SharedLaw, Places.ONE, Places.Step}
 use Rattle.{def_math.specs.Counts.count_below, def_math.specs.Runs.run_at, list_laws.proofs.Filters.filter_range_more}
 
 -- Counts rise with the bound.
 pub count_rises : (f : ℕ → ℕ) (a b : ℕ) → a ≤ b → count_below f a ≤ count_below f b
-count_rises f a zero le = let e : a ≡ zero = omega arith in omega (arith, ap (count_below f) e)
-count_rises f a (suc b) le = elim (cases_eq a (suc b)) [
-  | inl e ↦ omega (arith, ap (count_below f) e)
-  | inr ne ↦ omega (arith, count_rises f a b (omega arith))
-]
+count_rises f a zero le = search rules
+count_rises f a (suc b) le = search (rules, cases_eq a (suc b), count_rises f a b)
 
 -- Where there are runs, one of them is found.
 pub run_low : (start : ℕ → ℕ) (n t : ℕ) → 0 < n → run_at start n t < n
-run_low start zero t l = absurd (omega arith)
-run_low start (suc zero) t l = search rules
 run_low start (suc (suc n)) t l = search (rules, run_low start (suc n) t (omega arith))
+run_low start _ t l = search rules
 
 -- It begins at or before the place.
 pub run_from : (start : ℕ → ℕ) (n t : ℕ) → start 0 ≤ t → start (run_at start n t) ≤ t
@@ -32,10 +28,8 @@ run_from start (suc n) t l = search (rules, run_from start n t l)
 
 -- The next one begins after it.
 pub run_to : (start : ℕ → ℕ) (n t : ℕ) → 0 < n → t < start n → t < start (suc (run_at start n t))
-run_to start zero t some l = absurd (omega arith)
-run_to start (suc zero) t some l = search rules
-run_to start (suc (suc n)) t some l = cond_both (nat_lt t (start (suc n))) (run_at start (suc n) t) (suc n)
-    (λ k. t < start (suc k)) (λ e. run_to start _ t (omega arith) (ltb-true t (start (suc n)) e)) (λ e. l)
+run_to start (suc (suc n)) t some l = search (rules, run_to start (suc n) t)
+run_to start _ t some l = search rules
 
 -- From the beginning of the last one on it is found.
 pub run_last : (start : ℕ → ℕ) (n t : ℕ) → 0 < n → start (n - 1) ≤ t → run_at start n t ≡ n - 1
@@ -44,10 +38,7 @@ run_last start n t h1 h2 = search rules
 -- Place o of run k lies in run k.
 pub run_place : (f : ℕ → ℕ) (n k o : ℕ) → k < n → o < f k → run_at (count_below f) n (count_below f k + o) ≡ k
 run_place f zero k o l in_run = absurd (omega arith)
-run_place f (suc n) k o l in_run = elim (cases_eq k n) [
-  | inl e ↦ search (rules, ap (count_below f) e)
-  | inr ne ↦ search (rules, count_rises f (suc k) n (omega arith), run_place f n k o (omega arith) in_run)
-]
+run_place f (suc n) k o l in_run = search (rules, cases_eq k n, count_rises f (suc k) n, run_place f n k o)
 
 -- Place t lies o after the beginning of run k.
 pub record IsInRun (f : ℕ → ℕ) (n t k o : ℕ) : Type 0 where
@@ -95,11 +86,9 @@ module _ (w h : ℕ → ℕ) (n : ℕ) where
   pub cell_once : {p i j q c d : ℕ} → IsCell p i j → IsCell q c d → number_of p i j ≡ number_of q c d
       → (p ≡ q) × (i ≡ c) × (j ≡ d)
   cell_once {p} {i} {j} {q} {c} {d} a b same =
-      let s = place_same cells_of n p (j * w p + i) q (d * w q + c) a.low b.low
-      (mul-add-lt j (w p) i (h p) a.row a.column) (mul-add-lt d (w q) c (h q) b.row b.column) same in
-      let wide : w q ≡ w p = ap w (sym s.0) in
-      let r = same_from_place j i d c (w p) a.column (omega (arith, b.column)) (s.1 ∙ (λ t. d * wide t + c)) in
-      (s.0, r.1, r.0)
+      let s = place_same cells_of n p (j * w p + i) q (d * w q + c) a.low b.low (search (rules, mul-add-lt))
+      (search (rules, mul-add-lt)) same in
+      let r = same_from_place j i d c (w p) in search (rules, s, r)
 
   -- Each number below the end is that of a place.
   abbrev pub block_at : (t : ℕ) → ℕ
@@ -111,6 +100,11 @@ module _ (w h : ℕ → ℕ) (n : ℕ) where
   pub cell_here : (t : ℕ) → t < count_below cells_of n → IsCell (block_at t) (rest_at t % w (block_at t)) (rest_at t / w
       (block_at t)) × (number_of (block_at t) (rest_at t % w (block_at t)) (rest_at t / w (block_at t)) ≡ t)
   cell_here t low = let run = run_here cells_of n t low in search rules
+
+  -- The same of a place of which no more is told.
+  pub some_cell : (t : ℕ) → t < count_below cells_of n
+      → (p : ℕ) × (i : ℕ) × (j : ℕ) × IsCell p i j × (number_of p i j ≡ t)
+  some_cell t low = let (c, place) = cell_here t low in (_, _, _, c, place)
 
 -- Equal parts of the old lengths are a spacing, and equal parts of shares of the old edges.
 
@@ -159,28 +153,24 @@ module _ (share : ℕ → ℕ) (m n k : ℕ) (m_some : 0 < m) (all_some : 0 < co
   inner_some some few = elim (cases_eq edge 0) [
     | inr ne ↦ omega arith
     | inl first ↦
-        let one : count_below share 1 ≤ count_below share m = count_rises share 1 m (omega arith) in
-        let same : share edge ≡ share 0 = ap share first in
-        let none : start edge ≡ n * 0 = ap start first in
+        let one = count_rises share 1 m (omega arith) in
         let all = mul-le 1 (count_below share m) k (count_below share m) some (omega arith) in
-        let le = mul-le n (share edge) ONE (before - start edge) few (omega arith) in
-        search (rules, share_some)
+        let le = mul-le n (share edge) ONE (before - start edge) few in
+        search (rules, share_some, le, ap share first, ap start first)
   ]
 
 module _ (l : Gluing) (old new : Lengths) (shares : Shares) (o_len : AreLengths l old) (n_len : AreLengths l new) where
   -- Place k of an arc before its end.
   pub step_is : (a k : ℕ) → a < l.arcs → k < new a → IsInner (old a) (shared_step old new shares a k)
-  step_is a k low less = cond_both (k == 0) (edge_begin 0) _ (IsInner (old a))
-      (λ e. record { edge = o_len.some a low; part = omega arith; parts = refl }) (λ e. cond_both (k == new a)
-      (edge_begin (old a)) _ (IsInner (old a)) (λ same. absurd (omega (arith, eqb-true k (new a) same)))
-      (λ ne. inner_is _ _ _ k (o_len.some a low) (search rules) less))
+  step_is a k low less =
+      let some : 0 < count_below (counted (shares a) (old a)) (old a) = search (rules, o_len.some, count_ones) in
+      search (rules, o_len.some, inner_is (counted (shares a) (old a)) (old a) (new a) k)
 
   module _ (few : (a : ℕ) → a < l.arcs → new a ≤ ONE) where
     parameter_some : (a k : ℕ) → a < l.arcs → 0 < k → k ≤ new a → 0 < step_parameter (shared_step old new shares a k)
-    parameter_some a k low some le = cond_both (k == 0) (edge_begin 0) _ (λ s. 0 < step_parameter s)
-        (λ e. absurd (omega (arith, eqb-true k 0 e))) (λ e. cond_both (k == new a) (edge_begin (old a)) _ (λ s. 0
-        < step_parameter s) (λ same. omega (arith, o_len.some a low)) (λ ne. inner_some _ _ _ k (o_len.some a low)
-        (search rules) (search (rules, eqb-false k (new a) ne)) some (few a low)))
+    parameter_some a k low some le =
+        let all : 0 < count_below (counted (shares a) (old a)) (old a) = search (rules, o_len.some, count_ones) in
+        search (rules, o_len.some, inner_some (counted (shares a) (old a)) (old a) (new a) k, few)
 
     begins_at : (a : ℕ) (forward : Bool) → a < l.arcs → shared_parameter old new shares a forward 0 ≡ 0
     begins_at a true low = refl
@@ -226,10 +216,7 @@ but_same p {u} {k} apart = cond-false (k == u) false (p k) (ne_eqb k u apart)
 -- One less passes.
 passing_but : (p : ℕ → Bool) (n u : ℕ) → u < n → p u ≡ true → passing p n ≡ suc (passing (but p u) n)
 passing_but p zero u low on = absurd (omega arith)
-passing_but p (suc n) u low on = elim (cases_eq n u) [
-  | inl e ↦ search (rules, count_below_same)
-  | inr apart ↦ grind (arith, but_same p apart, passing_but p n u (omega arith) on)
-]
+passing_but p (suc n) u low on = search (rules, cases_eq n u, count_below_same, but_same p, passing_but p n u)
 
 -- Where what passes p below m is mapped one to one to what passes q below n, there is no more of it.
 pub passing_le : (p q : ℕ → Bool) (m n : ℕ) → (to : (i : ℕ) → i < m → p i ≡ true → (k : ℕ) × (k < n) × (q k ≡ true))
