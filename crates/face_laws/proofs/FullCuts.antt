@@ -1,9 +1,9 @@
 -- Fans and kinds of the vertices of a list of faces, told by turns of its half edges.
 use Rattle.std.proofs.Common.{◌≡◌, ◌⊎◌, ℕ, zero, suc, ◌+◌, ◌-◌, ◌*◌, ◌/◌, ◌%◌, ◌<◌, true, not, ◌||◌, eqb, length}
-use Rattle.std.proofs.Common.{get_or, Option, Some, None, is_some, sym, ◌∙◌, ap, subst, refl, inl, inr, arith, ◌≤◌}
-use Rattle.std.proofs.Common.{Bool, false, List, option_map, true≢false}
+use Rattle.std.proofs.Common.{get_or, Option, Some, None, is_some, sym, ◌∙◌, ap, subst, refl, inl, inr, arith}
+use Rattle.std.proofs.Common.{rules, Bool, false, List, option_map, true≢false, ◌&&◌}
 use Rattle.std.proofs.lemmas.Bool.{cases_Bool, cases_order, eqb-true, eq-eqb, ne_eqb, cond-true, cond-false, or_left}
-use Rattle.std.proofs.lemmas.Bool.{or_right, or_cases, not_from_true, not_from_false, false≢true, cases_eq}
+use Rattle.std.proofs.lemmas.Bool.{or_right, or_cases, not_from_true, not_from_false, false≢true, and_parts}
 use Rattle.std.proofs.{lemmas.List.FromFn.length-range_with_len, lemmas.List.FromFn.get_or-range_with_len}
 use Rattle.std.proofs.{lemmas.List.Sums.list_all-from_AllPass, lemmas.List.Sums.AllPass-from_list_all}
 use Rattle.def_mesh.specs.Darts.{darts, all_darts, from_of, to_of, next_of, prev_of, twin_of}
@@ -14,7 +14,7 @@ use Rattle.def_cut.specs.{FullCut.is_on, FullCut.IsChain, FullCut.IsFullCut, Law
 use Rattle.mesh_laws.proofs.Chains.{is_fan, manifold_law, next_face}
 use Rattle.cut_laws.proofs.Crosses.{HasFan, of_four, four_cross, four_all, four_some, both_twins}
 use Rattle.cut_laws.proofs.{Pigeon.no_more, Corners.spin_back, Corners.spin_join, Classes.AreLinked, Classes.step_over}
-use Rattle.cut_laws.proofs.{Classes.step_spin, Classes.links_low}
+use Rattle.cut_laws.proofs.{Rows.first_or_none, Classes.step_spin, Classes.links_low}
 
 -- The number of faces at v is the number of darts that leave it.
 pub has_fan : (faces : Faces) (v : ℕ) → HasFan (half_edges faces) v (faces_at faces v)
@@ -23,13 +23,9 @@ has_fan faces v =
     let fan = is_fan _ v _ refl in
     let at = λ (i : ℕ). get_or darts i 0 in
     record {
-      most = λ n g all. no_more _ n at g (λ i j li lj e. elim (cases_order i j) [
-        | inl s ↦ s
-        | inr o ↦ absurd (elim o [
-          | inl l ↦ omega (arith, e, fan.increasing i j l lj)
-          | inr l ↦ omega (arith, e, fan.increasing j i l li)
-        ])
-      ]) (λ i l. all (at i) (record { low = fan.dart i l; at = fan.leaves i l }));
+      most = λ n g all.
+          no_more _ n at g (λ i j li lj e. search (rules, cases_order i j, fan.increasing i j, fan.increasing j i))
+          (λ i l. all (at i) (record { low = fan.dart i l; at = fan.leaves i l }));
       least = λ n g some. no_more n _ g at some.apart (λ i l. fan.place (g i) (some.each i l).low (some.each i l).at);
     }
 
@@ -38,6 +34,13 @@ some_there : (o : Option ℕ) → is_some o ≡ true → (t : ℕ) × (o ≡ Som
 some_there None e = absurd (false≢true e)
 some_there (Some t) e = (t, refl)
 
+-- The ends of a dart, by the test of them.
+ends_from : (faces : Faces) (v d : ℕ) → is_end faces v d ≡ true → (from_of faces d ≡ v) ⊎ (to_of faces d ≡ v)
+ends_from faces v d e = elim (or_cases _ _ e) [ inl s ↦ inl (eqb-true _ _ s) | inr s ↦ inr (eqb-true _ _ s) ]
+
+end_from : (faces : Faces) (v d : ℕ) → (from_of faces d ≡ v) ⊎ (to_of faces d ≡ v) → is_end faces v d ≡ true
+end_from faces v d ends = elim ends [ inl e ↦ or_left _ _ (eq-eqb _ _ e) | inr e ↦ or_right _ _ (eq-eqb _ _ e) ]
+
 -- v is inner where each edge at it has two darts.
 pub inner_from : (faces : Faces) (v : ℕ) → ((d : ℕ) → d < darts faces → (from_of faces d ≡ v) ⊎ (to_of faces d ≡ v)
     → (t : ℕ) × (twin_of faces d ≡ Some t)) → is_inner faces v ≡ true
@@ -45,16 +48,15 @@ inner_from faces v each = list_all-from_AllPass (λ d. not (is_end faces v d) ||
     (all_darts faces) (λ k x n. let l : k < darts faces = omega (arith, length-range_with_len 0 (darts faces)) in
     let at : get_or (all_darts faces) k x ≡ k = get_or-range_with_len 0 (darts faces) k x l ∙ omega arith in
     rw at (elim (cases_Bool (is_end faces v k)) [
-      | inl e ↦ or_right (not (is_end faces v k)) (is_some (twin_of faces k)) (ap is_some
-          (each k l (elim (or_cases _ _ e) [ inl s ↦ inl (eqb-true _ _ s) | inr s ↦ inr (eqb-true _ _ s) ])).1)
+      | inl e ↦ or_right (not (is_end faces v k)) (is_some (twin_of faces k))
+          (ap is_some (each k l (ends_from faces v k e)).1)
       | inr e ↦ or_left (not (is_end faces v k)) (is_some (twin_of faces k)) (not_from_false _ e)
     ]))
 
 pub inner_twin : (faces : Faces) (v : ℕ) → is_inner faces v ≡ true → (d : ℕ) → d < darts faces → (from_of faces d ≡ v)
     ⊎ (to_of faces d ≡ v) → (t : ℕ) × (twin_of faces d ≡ Some t)
 inner_twin faces v inner d l ends =
-    let is : is_end faces v d ≡ true =
-    elim ends [ inl e ↦ or_left _ _ (eq-eqb _ _ e) | inr e ↦ or_right _ _ (eq-eqb _ _ e) ] in
+    let is = end_from faces v d ends in
     let passes = subst (λ (x : ℕ). (not (is_end faces v x) || is_some (twin_of faces x)) ≡ true)
     (get_or-range_with_len 0 (darts faces) d 0 l ∙ omega arith) (AllPass-from_list_all (λ d. not (is_end faces v d)
     || is_some (twin_of faces d)) (all_darts faces) inner d 0 (omega (arith, length-range_with_len 0 (darts faces)))) in
@@ -127,16 +129,12 @@ module _ (faces : Faces) (laws : IsQuadManifold (half_edges faces)) (marks : Lis
     crossed : (d : ℕ) → d < darts faces → IsUncut mesh cut (from_of faces d) → HasCross mesh d
     crossed d l uncut =
         let off : (x : ℕ) → x < darts faces → (from_of faces x ≡ from_of faces d) ⊎ (to_of faces x ≡ from_of faces d)
-        → cut x ≡ false = λ x lx at. elim at [
-          | inl at ↦ (uncut x lx at).0
-          | inr at ↦ ap cut (sym (laws.prev_next x)) ∙ (uncut (next_of x) (laws.next_low x lx) at).1
-        ] in
+        → cut x ≡ false = λ x lx at. let back = laws.prev_next x in
+        search (rules, uncut x lx, uncut (next_of x) (laws.next_low x lx)) in
         let inner = inner_from _ _ (λ x lx at. twin_there x lx (off x lx at) _ refl) in
         regular_cross _ laws d l inner (elim (cases_Bool (is_regular faces (from_of faces d))) [
           | inl on ↦ on
-          | inr other ↦
-              let e = full.irregular d l other in
-              absurd (true≢false (sym e.2 ∙ off e.0 e.1 e.3))
+          | inr other ↦ let e = full.irregular d l other in absurd (true≢false (sym e.2 ∙ off e.0 e.1 e.3))
         ])
 
     -- Faces that are joined by a chain have their darts in one class.
@@ -157,54 +155,32 @@ module _ (faces : Faces) (laws : IsQuadManifold (half_edges faces)) (marks : Lis
         (c.0, k.0, k.1, (c.3, c.4, c.5))
 
     gaps : (d : ℕ) → d < darts faces → cut d ≡ true → GoesOn mesh cut d
-    gaps d l on = elim (full.gaps d l on)
-        [ inl m ↦ inl m | inr s ↦ inr (by_twin (twin_of faces (next_of d)) refl s.0 s.1 s.2) ]
+    gaps d l on = elim (full.gaps d l on) [ inl m ↦ inl m | inr s ↦ inr (by_twin _ refl s.0 s.1 s.2) ]
       where
         by_twin : (o : Option ℕ) → twin_of faces (next_of d) ≡ o → (e : ℕ) → option_map next_of o ≡ Some e
             → cut e ≡ true → (t : ℕ) × (twin_of faces (next_of d) ≡ Some t) × (cut (next_of t) ≡ true)
         by_twin None is e s m = absurd cc
-        by_twin (Some t) is e s m = (t, is, let q : next_of t ≡ e = cc in ap cut q ∙ m)
+        by_twin (Some t) is e s m = (t, is, cc)
 
     pub to_cut : IsCut mesh cut
     to_cut = record { alike = full.alike; boundary = full.boundary; gaps = gaps; crossed = crossed; corner = corner }
 
   -- And back.
   module _ (long : length marks ≡ darts faces) (full : IsCut mesh cut) where
-    -- A cut edge at a vertex, or none.
-    CutAt : ℕ → Type 0
-    CutAt v = (e : ℕ) × (e < darts faces) × (cut e ≡ true) × ((from_of faces e ≡ v) ⊎ (to_of faces e ≡ v))
-
-    search : (v n : ℕ) → n ≤ darts faces → CutAt v ⊎ ((x : ℕ) → x < n → from_of faces x ≡ v → (cut x ≡ false)
-        × (cut (prev_of x) ≡ false))
-    unfolding CutAt
-    search v zero h = inr (λ x l at. absurd (omega arith))
-    search v (suc n) h =
-        let before = search v n (omega arith) in
-        elim before [
-          | inl found ↦ inl found
-          | inr none ↦ elim (cases_eq (from_of faces n) v) [
-            | inl at ↦ elim (cases_Bool (cut n)) [
-              | inl on ↦ inl (n, omega arith, on, inl at)
-              | inr off ↦ elim (cases_Bool (cut (prev_of n))) [
-                | inl on ↦
-                    inl (prev_of n, laws.prev_low n (omega arith), on, inr (ap (from_of faces) (laws.next_prev n) ∙ at))
-                | inr clear ↦ inr (λ x l s. elim (cases_eq x n) [
-                  | inl e ↦ (ap cut e ∙ off, ap (λ y. cut (prev_of y)) e ∙ clear)
-                  | inr ne ↦ none x (omega arith) s
-                ])
-              ]
-            ]
-            | inr other ↦ inr (λ x l s. elim (cases_eq x n) [
-              | inl e ↦ absurd (other (ap (from_of faces) (sym e) ∙ s))
-              | inr ne ↦ none x (omega arith) s
-            ])
-          ]
-        ]
-
-    irregular : (d : ℕ) → d < darts faces → is_regular faces (from_of faces d) ≡ false → CutAt (from_of faces d)
-    irregular d l other = elim (search (from_of faces d) (darts faces) (omega arith)) [
-      | inl found ↦ found
-      | inr none ↦ absurd (false≢true (sym other ∙ cross_regular faces laws d l (full.crossed d l none)))
+    irregular : (d : ℕ) → d < darts faces → is_regular faces (from_of faces d) ≡ false → (e : ℕ) × (e < darts faces)
+        × (cut e ≡ true) × ((from_of faces e ≡ from_of faces d) ⊎ (to_of faces e ≡ from_of faces d))
+    irregular d l other = elim (first_or_none (λ e. cut e && is_end faces (from_of faces d) e) (darts faces)) [
+      | inl (e, e_low, first) ↦
+          let (on, ends) = and_parts (cut e) (is_end faces (from_of faces d) e) first.on in
+          (e, e_low, on, ends_from faces (from_of faces d) e ends)
+      | inr none ↦
+          let off : (x : ℕ) → x < darts faces → (from_of faces x ≡ from_of faces d) ⊎ (to_of faces x ≡ from_of faces d)
+          → cut x ≡ false = λ x lx at.
+          search (rules, none x lx, end_from faces (from_of faces d) x at, cases_Bool (cut x)) in
+          absurd (false≢true (sym other ∙ cross_regular faces laws d l (full.crossed d l (λ x lx at. (
+            off x lx (inl at),
+            off (prev_of x) (laws.prev_low x lx) (inr (ap (from_of faces) (laws.next_prev x) ∙ at)),
+          )))))
     ]
 
     -- Darts of one class lie in faces that a chain joins.
@@ -227,7 +203,6 @@ module _ (faces : Faces) (laws : IsQuadManifold (half_edges faces)) (marks : Lis
         (c.0, r.0, rw first at r.1, c.3.0, c.3.1, c.3.2)
 
     pub from_cut : IsFullCut faces marks
-    unfolding CutAt
     from_cut = record {
       long = long;
       alike = full.alike;
