@@ -92,8 +92,7 @@ module _ (m : HalfEdges) (laws : IsQuadManifold m) (cut : Cut) (full : IsCut m c
       → k < long_at arcs b
       → LiesAt m (path_at arcs a).darts f o d → LiesAt m (path_at arcs b).darts g k d → (a ≡ b) × (f ≡ g) × (o ≡ k)
   same_use a b true true o k d a_low b_low o_low k_low at also = search (rules, same_dart)
-  same_use a b true false o k d a_low b_low o_low k_low at also = search (rules, clash)
-  same_use a b false true o k d a_low b_low o_low k_low at also = search (rules, clash)
   same_use a b false false o k d a_low b_low o_low k_low at also =
       let one : m.twin d ≡ Some (dart_at arcs a (long_at arcs a - 1 - o)) = search (rules, dart_low) in
       search (rules, dart_low, same_dart)
+  same_use a b _ _ o k d a_low b_low o_low k_low at also = search (rules, clash)

@@ -6,7 +6,7 @@ use Rattle.def_layout.specs.{Lengths.wide, Lengths.high, Layouts.Layout, Layouts
 use Rattle.def_layout.specs.{Cells.CellDart, Cells.IsDart, Gluings.Way, Gluings.south, Gluings.west, Gluings.Gluing}
 use Rattle.def_written.specs.{Laws.LiesInMesh, Points.Point, Points.IsPoint, Numbers.vertex_number, Numbers.vertices}
 use Rattle.def_written.specs.{NewFaces.dart_start, NewFaces.cells_before, NewFaces.face_count}
-use Rattle.written_laws.proofs.{Shape.laid_law, Spacings.count_rises, Spacings.passing, Spacings.passing_le}
+use Rattle.written_laws.proofs.{Shape.laid_law, Spacings.count_rises, Spacings.passing_le}
 use Rattle.written_laws.proofs.{Spacings.passing_all, Rims.wide_some, Rims.high_some, EdgeNumbers.point_onto}
 use Rattle.written_laws.proofs.{ModelCounts.point_dart, ModelCounts.faces_are, NewDarts.dart_number, NewDarts.dart_low}
 use Rattle.written_laws.proofs.{NewDarts.dart_same, NewDarts.faces_long, OldModel.old_model}
@@ -32,12 +32,10 @@ module _ (l : Gluing) (x : Lengths) (laid : IsSurface l) (len : AreLengths l x) 
   vertices_few =
       let below : (v : ℕ) (low : v < vertices l x) → dart_number l x (dart v low).0
       < 4 * face_count l x = λ v low. omega (arith, dart_low l x _ (dart v low).1, faces_long l x) in
-      let all : passing (λ k. true) (vertices l x) ≡ vertices l x = passing_all _ in
-      let darts : passing (λ k. true) (4 * face_count l x) ≡ 4 * face_count l x = passing_all _ in
       omega (
         arith,
-        all,
-        darts,
+        passing_all (vertices l x),
+        passing_all (4 * face_count l x),
         passing_le (λ k. true) (λ k. true) _ _ (λ v low on. (dart_number l x (dart v low).0, below v low, refl))
             (λ v w a on b too same. sym (dart v a).2 ∙ ap (λ (d : CellDart). vertex_number l x (dart_start l x d))
             (dart_same l x _ _ (dart v a).1 (dart w b).1 same) ∙ (dart w b).2),
@@ -54,13 +52,12 @@ module _ (l : Gluing) (x : Lengths) (laid : IsSurface l) (len : AreLengths l x) 
       let le : cells_before l x (suc p) ≤ cells_before l x l.patches = search (rules, count_rises) in
       omega (arith, le)
 
-  both_few : (p : ℕ) → p < l.patches → (wide l x p ≤ face_count l x) × (high l x p ≤ face_count l x)
-  both_few p low =
-      let few = patch_few p low in
-      let w_some = wide_some l x laid.paved len p low in search (rules, high_some)
-
   pub side_few : (p : ℕ) (s : Way) → p < l.patches → size l x p s ≤ face_count l x
-  side_few p s h1 = search (rules, both_few)
+  side_few p s low =
+      let few = patch_few p low in
+      let w_some = wide_some l x laid.paved len p low in
+      let h_some = high_some l x laid.paved len p low in
+      let both : (wide l x p ≤ face_count l x) × (high l x p ≤ face_count l x) = search rules in search rules
 
 -- Lengths of at most k make a layout no larger than k times the old lengths do.
 module _ (l : Gluing) (old x : Lengths) (k : ℕ) (laid : IsSurface l) (len : AreLengths l old) (most : (a : ℕ)

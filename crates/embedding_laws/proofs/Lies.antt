@@ -1,5 +1,5 @@
 -- The layout of a full cut lies in the mesh.
-use Rattle.std.proofs.Common.{rules, ◌≡◌, ◌≢◌, ℕ, zero, suc, ◌<◌, refl, sym, ap, ◌⊎◌, ◌+◌, ◌-◌, Bool, true, false}
+use Rattle.std.proofs.Common.{rules, ◌≡◌, ℕ, zero, suc, ◌<◌, refl, sym, ap, ◌⊎◌, ◌+◌, ◌-◌, Bool, true, false}
 use Rattle.std.proofs.Common.{length, Some, None, ◌∙◌, subst, inl, inr, arith}
 use Rattle.std.proofs.lemmas.{Bool.cases_Bool, Bool.cases_eq, Bool.cases_lt, Bool.false≢true}
 use Rattle.def_mesh.specs.HalfEdges.{HalfEdges, IsQuadManifold}
@@ -79,11 +79,8 @@ module _ {m : HalfEdges} (laws : IsQuadManifold m) {cut : Cut} (full : IsCut m c
   onto : (k : ℕ) → k < m.count → (d : CellDart) × IsDart l x d × (cell_dart m t d ≡ k)
   onto k low =
       let (p, i, j, q, p_low, side) = lay.patches.covers k low in
-      let w = spin_way m laws q (cell_of (patch_at t.patches p) i j) in (
-        dart p i j w.0,
-        search rules,
-        cc (w.1, side.is),
-      )
+      let w = spin_way m laws q (cell_of (patch_at t.patches p) i j) in
+      (dart p i j w.0, search rules, cc (w.1, side.is))
 
   -- Nodes have vertices of their own.
   pub node_kept : (n : ℕ) → n < length t.nodes → IsKept node 0 v_count (vertex_at t n)
@@ -95,12 +92,7 @@ module _ {m : HalfEdges} (laws : IsQuadManifold m) {cut : Cut} (full : IsCut m c
   -- Border darts by side and place.
   rim_dart : (p : ℕ) (s : Way) (k : ℕ) → p < length t.patches → cell_dart m t (dart_along l x p s k)
       ≡ border_dart m (patch_at t.patches p) s k
-  rim_dart p south k low = refl
-  rim_dart p east k low = ap (λ w. m.next (cell_of (patch_at t.patches p) (w - 1) k)) (lay.sizes p south low)
-  rim_dart p north k low = λ r. m.next
-      (m.next (cell_of (patch_at t.patches p) (lay.sizes p south low r - 1 - k) (lay.sizes p west low r - 1)))
-  rim_dart p west k low = ap (λ h. m.next (m.next (m.next (cell_of (patch_at t.patches p) 0 (h - 1 - k)))))
-      (lay.sizes p west low) ∙ prev_is m laws (cell_of (patch_at t.patches p) 0 ((patch_at t.patches p).h - 1 - k))
+  rim_dart p s k low = search (rules, lay.sizes p south low, lay.sizes p west low, prev_is m laws)
 
   -- A dart of the cut lies at a slot.
   pub record StandsAt (d : ℕ) (w : Slot) (o : ℕ) : Type 0 where
@@ -152,15 +144,15 @@ module _ {m : HalfEdges} (laws : IsQuadManifold m) {cut : Cut} (full : IsCut m c
 
   ahead_is : (w : Slot) (k : ℕ) → IsSlot l w → k < x (use_of l w).arc → (use_of l w).forward ≡ true
       → cell_dart m t (slot_dart l x w k) ≡ dart_at t.arcs (use_of l w).arc k
-  ahead_is w k is less e = rim_dart w.patch w.side (reach l x w.patch w.side w.at + k) is.patch_low
-      ∙ subst (λ (f : Bool). LiesAt m (path_at t.arcs (use_of l w).arc).darts f k
-      (border_dart m (patch_at t.patches w.patch) w.side (reach l x w.patch w.side w.at + k))) e (lay.used w k is less)
+  ahead_is w k is less e =
+      let rim = rim_dart w.patch w.side (reach l x w.patch w.side w.at + k) is.patch_low in
+      rw rim (rw e at (lay.used w k is less))
 
   behind_is : (w : Slot) (k : ℕ) → IsSlot l w → k < x (use_of l w).arc → (use_of l w).forward ≡ false
       → m.twin (dart_at t.arcs (use_of l w).arc (x (use_of l w).arc - 1 - k)) ≡ Some (cell_dart m t (slot_dart l x w k))
-  behind_is w k is less e = subst (λ (f : Bool). LiesAt m (path_at t.arcs (use_of l w).arc).darts f k
-      (border_dart m (patch_at t.patches w.patch) w.side (reach l x w.patch w.side w.at + k))) e (lay.used w k is less)
-      ∙ ap Some (sym (rim_dart w.patch w.side (reach l x w.patch w.side w.at + k) is.patch_low))
+  behind_is w k is less e =
+      let rim = rim_dart w.patch w.side (reach l x w.patch w.side w.at + k) is.patch_low in
+      rw rim (rw e at (lay.used w k is less))
 
   -- An arc has a slot the other way round where its first dart has a twin.
   other : (w : Slot) → IsSlot l w → ((v : Slot) × IsOtherSlot l w v) ⊎ ((v : Slot) → ¬ IsOtherSlot l w v)

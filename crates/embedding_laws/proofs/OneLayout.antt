@@ -220,11 +220,10 @@ module _ (m : HalfEdges) (laws : IsQuadManifold m) (cut : Cut) (full : IsCut m c
         (lu : IsDartLayout m cut node face v (record t { sides = sides })) where
       same_count : (p : ℕ) (s : Way) → p < length t.patches
           → (gluing_of t).many p s ≡ (gluing_of (u t sides lt lu)).many p s
-      same_count p s low = elim (cases_order ((gluing_of t).many p s) ((gluing_of (u t sides lt lu)).many p s)) [
-        | inl e ↦ e
-        | inr (inl l) ↦ absurd (fewer t sides lt lu p s low l)
-        | inr (inr l) ↦ absurd (fewer (u t sides lt lu) t.sides lu lt p s low l)
-      ]
+      same_count p s low =
+          let one = fewer t sides lt lu p s low in
+          let other = fewer (u t sides lt lu) t.sides lu lt p s low in
+          search (rules, one, other, cases_order ((gluing_of t).many p s) ((gluing_of (u t sides lt lu)).many p s))
 
       same_side : (p : ℕ) (s : Way) → p < length t.patches → side_at t p s ≡ side_at (u t sides lt lu) p s
       same_side p s low = ext_get_or (record { arc = 0; forward = true }) (side_at t p s) (side_at (u t sides lt lu) p
@@ -235,11 +234,8 @@ module _ (m : HalfEdges) (laws : IsQuadManifold m) (cut : Cut) (full : IsCut m c
           (λ i l. by_number i (omega (arith, l, lt.four p low)))
         where
           by_number : (i : ℕ) → i < 4 → get_or (get_or t.sides p []) i [] ≡ get_or (get_or sides p []) i []
-          by_number zero l = same_side p south low
-          by_number (suc zero) l = same_side p east low
-          by_number (suc (suc zero)) l = same_side p north low
-          by_number (suc (suc (suc zero))) l = same_side p west low
-          by_number (suc (suc (suc (suc i)))) l = absurd (omega arith)
+          by_number i l =
+              search (rules, same_side p south low, same_side p east low, same_side p north low, same_side p west low)
 
       same_sides : t.sides ≡ sides
       same_sides = ext_get_or [] t.sides sides (cc (lt.sided, lu.sided))
