@@ -1,6 +1,6 @@
 -- The darts of a graph are darts: they come in pairs and begin at vertices.
 use Rattle.std.proofs.Common.{rules, ◌≡◌, ◌≢◌, ℕ, ◌+◌, ◌-◌, ◌*◌, ◌/◌, ◌%◌, eqb, refl, ◌∙◌, ap, arith, ◌<◌, ◌≤◌, Bool}
-use Rattle.std.proofs.Common.{cond, List, [], ◌∷◌, map, length, ℤ, pos, ◌+ℤ◌, ◌*ℤ◌, ◌≤ℤ◌, inl, inr}
+use Rattle.std.proofs.Common.{cond, List, [], ◌∷◌, map, length, ℤ, pos, ◌*ℤ◌, ◌≤ℤ◌, inl, inr}
 use Rattle.std.proofs.lemmas.Bool.{cond-true, cond-false, eq-eqb, ne_eqb, cases_eq, cases_lt}
 use Rattle.std.proofs.lemmas.Int.{ints}
 use Rattle.def_matching.specs.Matching.{WeightedGraph, IsGraph, edge_at, ends_at, IsPerfect, matching_cost}
@@ -8,7 +8,7 @@ use Rattle.def_matching.specs.{Dual.crosses, declared.weighted.WEdge.WEdge}
 use Rattle.def_forest.specs.{Darts.AreDarts, Darts.darts_of, Darts.other_dart, Darts.far, Forests.Forest}
 use Rattle.def_forest.specs.{Forests.weight_between, Forests.dual_sum_of, Valid.IsNested, Valid.IsFeasible}
 use Rattle.def_math.specs.{Counts.count, Increasing.IsIncreasing, Sums.total}
-use Rattle.qm_dual.proofs.Weak.{at_least_once, odd_leaves, chosen_below}
+use Rattle.qm_dual.proofs.Weak.{at_least_once, leaving_high, odd_leaves, chosen_below}
 use Rattle.{sum_laws.proofs.Sums.total_below_le, sum_laws.proofs.Sums.two_orders, forest_laws.proofs.Odds.odd_blossom}
 
 -- The twin of a dart by its last bit.
@@ -56,27 +56,21 @@ just_once s z (e ∷ es) one = grind (arith, ints, just_once s z es, once_sum s 
 
 module _ {g : WeightedGraph} (is : IsGraph g) {f : Forest} (vertices : g.n ≤ f.size)
     (nested : IsNested (darts_of g) f) where
-  -- An edge that leaves a vertex ends there.
-  pub leaves_vertex : (v k : ℕ) → v < g.n → k < length g.edges
-      → ◌≡◌ {A = ℕ} (cond (crosses (f.holds v) (edge_at g k)) 1 0) (ends_at v (edge_at g k))
-  leaves_vertex v k lv lk = search rules
-
-  pub counts_vertex : (v low : ℕ) (m : List ℕ) → v < g.n → IsIncreasing low (length g.edges) m
+  -- The edges that leave a vertex end there.
+  counts_vertex : (v low : ℕ) (m : List ℕ) → v < g.n → IsIncreasing low (length g.edges) m
       → count (λ (e : WEdge). cond (crosses (f.holds v) e) 1 0) (map (edge_at g) m)
       ≡ count (ends_at v) (map (edge_at g) m)
   counts_vertex v low [] lv increasing = refl
   counts_vertex v low (k ∷ ks) lv increasing =
-      omega (arith, leaves_vertex v k lv increasing.1, counts_vertex v (k + 1) ks lv increasing.2)
+      search (rules, counts_vertex v (k + 1) ks lv increasing.2)
 
   module _ (feasible : IsFeasible (darts_of g) f) where
-    edge_low : (k : ℕ) → k < length g.edges
-        → weight_between f (edge_at g k).u (edge_at g k).v ≤ℤ ((edge_at g k).cost +ℤ (edge_at g k).cost)
-    edge_low k l = rw (dart_near g k, dart_far g k, dart_cost g k) at (feasible.darts (2 * k) (omega arith))
-
     loads_low : (low : ℕ) (m : List ℕ) → IsIncreasing low (length g.edges) m
         → total (λ (e : WEdge). weight_between f e.u e.v) (map (edge_at g) m) ≤ℤ (pos 2 *ℤ matching_cost g m)
     loads_low low [] increasing = omega (arith, ints)
-    loads_low low (k ∷ ks) increasing = omega (arith, ints, edge_low k increasing.1, loads_low (k + 1) ks increasing.2)
+    loads_low low (k ∷ ks) increasing =
+        let edge = rw (dart_near g k, dart_far g k, dart_cost g k) at (feasible.darts (2 * k) (omega arith)) in
+        omega (arith, ints, loads_low (k + 1) ks increasing.2)
 
     -- Twice the cost of a perfect matching is at least the sum.
     pub sum_bounds : {m : List ℕ} → IsPerfect g m → dual_sum_of f ≤ℤ (pos 2 *ℤ matching_cost g m)
@@ -89,15 +83,11 @@ module _ {g : WeightedGraph} (is : IsGraph g) {f : Forest} (vertices : g.n ≤ f
           | inl low ↦ (let once = counts_vertex b 0 m low perfect.increasing ∙ perfect.once b low in
               omega (arith, ints, just_once (f.holds b) (f.weight b) es once))
           | inr high ↦ elim (cases_eq (f.nest.parts b) 0) [
-            | inl none ↦ unused b (nested.weightless b high none) es
+            | inl none ↦ (let zero = nested.weightless b high none in
+                omega (arith, ints, leaving_high (f.holds b) (f.weight b) es (feasible.sets b high l)))
             | inr live ↦ at_least_once (f.holds b) (f.weight b) es (feasible.sets b high l)
                 (odd_leaves (f.holds b) g.n es (chosen_below g is 0 m perfect.increasing) perfect.once
                 (odd_blossom (are_darts is) nested b (inr (high, live))))
           ]
         ]) in
         omega (arith, ints)
-      where
-        unused : (b : ℕ) → f.weight b ≡ pos 0 → (es : List WEdge)
-            → f.weight b ≤ℤ total (λ (e : WEdge). cond (crosses (f.holds b) e) (f.weight b) (pos 0)) es
-        unused b z [] = omega (arith, ints)
-        unused b z (e ∷ es) = grind (arith, ints, unused b z es)

@@ -56,10 +56,6 @@ module _ {g : Darts} {f : Forest} {r : ℕ} {new : Forest} {o : Opening} (opened
   pub out_old : (v : ℕ) → v < g.n → f.out v ≢ b → new.out v ≡ f.out v
   out_old v l ne = is.out v l ∙ cond-false (eqb (f.out v) b) (o.part v) (f.out v) (ne_eqb (f.out v) b ne)
 
-  out_cases : (P : ℕ → Type 0) (v : ℕ) → v < g.n → (f.out v ≡ b → P (o.part v)) → (f.out v ≢ b → P (f.out v))
-      → P (new.out v)
-  out_cases P v l part old = search (rules, out_in, out_old)
-
   -- Each blossom is b, a part of it, or neither.
   abbrev pub Place : ℕ → Type 0
   Place x = (x ≡ b) ⊎ (((j : ℕ) × (j ≤ 2 * o.half) × (o.q j ≡ x)) ⊎ (f.nest.up x ≢ b))
@@ -93,13 +89,17 @@ module _ {g : Darts} {f : Forest} {r : ℕ} {new : Forest} {o : Opening} (opened
   ends j k l e = let on = opening.ends j l in
       out_in (far g (o.e j)) (far_low g are (o.e j) (opening.tight j l).low) on.0 ∙ on.1 ∙ ap o.q (sym e)
 
-  -- Part j begins the joint to the next, and the last one ends the joint before it.
+  b_pair : IsMate g f b o.m
+  b_pair = valid.matched b o.m opening.mate
+
+  m_at : new.out (g.near o.m) ≡ o.q 0
+  m_at = out_in (g.near o.m) (are.near_low o.m b_pair.tight.low) b_pair.here ∙ opening.first
+
+  -- The mate of b leaves part 0, and the dart from the part before ends in any other.
   named_part : (j : ℕ) → j ≤ 2 * o.half → IsOutermost g.n new (o.q j)
-  named_part j l = elim (cases_lt j (2 * o.half)) [
-    | inl lt ↦ (g.near (o.e j), are.near_low (o.e j) (opening.tight j lt).low, begins j lt)
-    | inr ge ↦ (let k = 2 * o.half - 1 in let lt : k < 2 * o.half = omega (arith, opening.some) in
-        (far g (o.e k), far_low g are (o.e k) (opening.tight k lt).low, ends k j lt (omega (arith, opening.some))))
-  ]
+  named_part zero l = (g.near o.m, are.near_low o.m b_pair.tight.low, m_at)
+  named_part (suc k) l =
+      (far g (o.e k), far_low g are _ (opening.tight k l).low, ends k (suc k) l (omega arith))
 
   pub new_outermost : AreOutermost g.n new
   new_outermost = record {
@@ -114,8 +114,8 @@ module _ {g : Darts} {f : Forest} {r : ℕ} {new : Forest} {o : Opening} (opened
       | inr nu ↦ rw (out_old u lu nu, is.holds (f.out u) v nu lv) (let was = valid.outermost.held u v lu lv in
           grind (arith, is.out v lv))
     ];
-    tops = λ v l. out_cases (λ x. new.nest.up x ≡ x) v l (λ e. is.parts_out (o.part v) (part_has v l e).0)
-        (λ ne. (is.others (f.out v) (out_not_part v l ne)).up ∙ valid.outermost.tops v l);
+    tops = λ v l. (let top = valid.outermost.tops v l in let part = part_has v l in let kept = is.others (f.out v) in
+        search (rules, cases_eq (f.out v) b, out_in, out_old, part, kept, is.parts_out, out_not_part));
     together = λ x u v lu lv hu hv. (let parted = opening.parted x u v lu lv in
         let was = valid.outermost.together x u v lu lv in
         grind (arith, is.out u lu, is.out v lv, is.holds_none u lu, is.holds x u, is.holds x v));
@@ -156,16 +156,11 @@ module _ {g : Darts} {f : Forest} {r : ℕ} {new : Forest} {o : Opening} (opened
 
   pub new_nested : IsNested g new
   new_nested = same_nested are changes valid.nested (λ some. absurd (some is.no_parts)) (λ v l none. is.holds_none v l)
-      (λ c ne. ring_old ne) (λ p inner. elim (cases_eq (f.nest.up p) b) [
-        | inl e ↦ absurd (inner (is.parts_out p e))
-        | inr ne ↦ (search rules)
-      ]) (λ p inner. elim (cases_eq (f.nest.up p) b) [
-        | inl e ↦ absurd (inner (is.parts_out p e))
-        | inr ne ↦ joint_kept p (was p inner ne) ne
-      ])
+      (λ c ne. ring_old ne) (λ p inner. (let kept = not_b p inner in search rules))
+      (λ p inner. joint_kept p (λ e. inner ((is.others p (not_b p inner)).up ∙ e)) (not_b p inner))
     where
-      was : (p : ℕ) → new.nest.up p ≢ p → f.nest.up p ≢ b → f.nest.up p ≢ p
-      was p inner ne e = inner ((is.others p ne).up ∙ e)
+      not_b : (p : ℕ) → new.nest.up p ≢ p → f.nest.up p ≢ b
+      not_b p inner e = inner (is.parts_out p e)
 
   -- The places along the ring.
   place_of : ℕ → ℕ
@@ -217,14 +212,8 @@ module _ {g : Darts} {f : Forest} {r : ℕ} {new : Forest} {o : Opening} (opened
   b_inner : IsInner g f tree.depth b
   b_inner = tree.inner b opening.label
 
-  b_pair : IsMate g f b o.m
-  b_pair = valid.matched b o.m opening.mate
-
   b_mate : b_inner.dart ≡ o.m
   b_mate = some_is b_inner.dart o.m (sym b_inner.mate ∙ opening.mate)
-
-  m_at : new.out (g.near o.m) ≡ o.q 0
-  m_at = out_in (g.near o.m) (are.near_low o.m b_pair.tight.low) b_pair.here ∙ opening.first
 
   back_begins : (j : ℕ) → j < 2 * o.half → new.out (far g (g.twin (o.e j))) ≡ o.q j
   back_begins j l = ap new.out (far_twin are (o.e j)) ∙ begins j l
@@ -241,18 +230,12 @@ module _ {g : Darts} {f : Forest} {r : ℕ} {new : Forest} {o : Opening} (opened
 
   -- The mates of a part, by its place.
   mate_at : (j : ℕ) → j ≤ 2 * o.half → (d : ℕ) → new.mate (o.q j) ≡ Some d → IsMate g new (o.q j) d
-  mate_at j l d mate = elim (halves j) [
-    | inl w ↦ elim (cases_eq w.0 0) [
-      | inl z ↦ (let at : j ≡ 0 = omega (arith, w.1) in
-          search (rules, b_pair, same_tight, beyond_mate, m_at))
-      | inr nz ↦ (let i = w.0 - 1 in
-          let at : j ≡ 2 * i + 2 = omega (arith, w.1) in
-          let same : d ≡ g.twin (o.e (2 * i + 1)) = cc (is.even_mate i (omega arith)) in
-          rw (at, same) (pair_at i (omega arith)).1)
-    ]
-    | inr w ↦ (let low : w.0 < o.half = omega (arith, w.1) in
-        let same : d ≡ o.e (2 * w.0 + 1) = cc (w.1, is.odd_mate w.0 low) in
-        rw (w.1, same) (pair_at w.0 low).0)
+  mate_at zero l d mate = search (rules, b_pair, same_tight, beyond_mate, m_at)
+  mate_at (suc j) l d mate = elim (halves j) [
+    | inl w ↦ (let low : w.0 < o.half = omega (arith, w.1) in let at : suc j ≡ 2 * w.0 + 1 = omega (arith, w.1) in
+        let pair = pair_at w.0 low in let own = is.odd_mate w.0 low in grind arith)
+    | inr w ↦ (let low : w.0 < o.half = omega (arith, w.1) in let at : suc j ≡ 2 * w.0 + 2 = omega (arith, w.1) in
+        let pair = pair_at w.0 low in let own = is.even_mate w.0 low in grind arith)
   ]
 
   twin_at : {c d : ℕ} → IsMate g f c d → beyond d ≡ b → new.out (far g d) ≡ o.q 0

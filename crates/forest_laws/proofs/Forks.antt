@@ -1,6 +1,6 @@
 -- Two climbers from two blossoms of the tree, the lower of whom waits, meet where the ways first meet; and from there
 -- the ring that an edge between two outer blossoms closes is read off.
-use Rattle.std.proofs.Common.{rules, ◌≡◌, ◌≢◌, ℕ, zero, suc, ◌+◌, ◌-◌, ◌*◌, ◌/◌, ◌<◌, ◌≤◌, Bool, true, Some, ◌⊎◌, refl}
+use Rattle.std.proofs.Common.{rules, ◌≡◌, ◌≢◌, ℕ, zero, suc, ◌+◌, ◌-◌, ◌*◌, ◌/◌, ◌<◌, ◌≤◌, Bool, true, Some, refl}
 use Rattle.std.proofs.Common.{sym, ◌∙◌, ap, subst, inl, inr, arith}
 use Rattle.std.proofs.lemmas.Bool.{cases_eq, cases_lt, cond-true, cond-false, eq-eqb, lt-ltb, le-ltb}
 use Rattle.def_forest.specs.declared.kinds.Label.TheVariants.{Outer, Inner, Outside}
@@ -8,8 +8,8 @@ use Rattle.def_forest.specs.{Darts.Darts, Darts.AreDarts, Darts.far, Forests.For
 use Rattle.def_forest.specs.{Shrunk.IsCycle, Shrunk.IsClosedRow, Valid.IsValid, Valid.IsTree, Ways.dart_or}
 use Rattle.forest_laws.specs.Climbing.{rise_of, above_of, level_of, way_of, IsClimbing, ring_at, ring_dart}
 use Rattle.forest_laws.{specs.Walks.listed, proofs.Grows.far_twin, proofs.Grows.tight_twin, proofs.Grows.outer_named}
-use Rattle.forest_laws.proofs.Levels.{tree_cases, level_zero, root_level, on_way, way_step, way_depth, way_differs}
-use Rattle.forest_laws.proofs.Levels.{come_from, outer_above}
+use Rattle.forest_laws.proofs.Levels.{tree_cases, level_zero, root_level, on_way, way_step, way_depth}
+use Rattle.forest_laws.proofs.Levels.{step_outer, level_some}
 use Rattle.forest_laws.proofs.Walks.{walk_sum, listed_place, listed_off, listed_closed, listed_sum}
 
 -- The two climbers may change places.
@@ -21,14 +21,10 @@ module _ {g : Darts} (are : AreDarts g) {f : Forest} {r : ℕ} (valid : IsValid 
   -- The higher one, or either where they are level, is not at the root, and climbs.
   pub can_climb : {x y i j : ℕ} → IsClimbing g f a c x y i j → x ≢ y → level_of g f c - j ≤ level_of g f a - i
       → i < level_of g f a
-  can_climb {i} {j} is ne high = elim (cases_lt i (level_of g f a)) [
-    | inl l ↦ l
-    | inr h ↦ (let wx = on_way are valid tree a i named_a is.x_low in
-        let wy = on_way are valid tree c j named_c is.y_low in
-        let rx = level_zero are valid tree (way_of g f a i) wx.0 (omega (arith, wx.1, h)) in
-        let ry = level_zero are valid tree (way_of g f c j) wy.0 (omega (arith, wy.1, h, high, is.x_low, is.y_low)) in
-        absurd (ne (is.x_is ∙ rx ∙ sym ry ∙ sym is.y_is)))
-  ]
+  can_climb {i} {j} is ne high =
+      let wx = on_way are valid tree a i named_a is.x_low in
+      let wy = on_way are valid tree c j named_c is.y_low in
+      grind (arith, is, level_zero are valid tree (way_of g f a i), level_zero are valid tree (way_of g f c j))
 
   pub climb_on : {x y : ℕ} {x2 : ℕ} {i j : ℕ} → IsClimbing g f a c x y i j → x ≢ y
       → level_of g f c - j ≤ level_of g f a - i → x2 ≡ above_of g f x → IsClimbing g f a c x2 y (suc i) j
@@ -94,25 +90,25 @@ module _ {g : Darts} {f : Forest} {r start top left right : ℕ} (fork : Fork g 
   top_named : f.label top ≢ Outside
   top_named = rw met.x_is (on_left left (omega arith)).named
 
+  -- An inner blossom on a way was come to from the blossom to which it is matched.
+  came_from : (b n d x : ℕ) → f.label b ≡ Outer → n ≤ level b → x ≡ way b n → f.label x ≡ Inner → f.mate x ≡ Some d
+      → (k : ℕ) × (n ≡ suc k) × (f.out (far g d) ≡ way b k)
+  came_from b zero d x outer l e inner mate = absurd cc
+  came_from b (suc k) d x outer l e inner mate =
+      let w = on b k outer (omega arith) in
+      let up = level_some are valid tree (way b k) w.0 (omega (arith, w.1)) in
+      let pair = valid.matched (way b k) up.0 in
+      (k, refl, grind (arith, far_twin are up.0, tree.inner (way b k)))
+
   -- They meet in an outer blossom: on an inner one both would have come from the blossom to which it is matched.
   top_outer : f.label top ≡ Outer
   top_outer = elim (tree_cases (f.label top) top_named) [
     | inl outer ↦ outer
-    | inr inner ↦ (let i = from a left outer_a met.x_low met.x_is inner in
-        let j = from c right outer_c met.y_low met.y_is inner in
+    | inr inner ↦ (let mate = (tree.inner top inner).mate in
+        let i = came_from a left _ top outer_a met.x_low met.x_is inner mate in
+        let j = came_from c right _ top outer_c met.y_low met.y_is inner mate in
         search (rules, i, j, met.left))
   ]
-    where
-      from : (b n : ℕ) → f.label b ≡ Outer → n ≤ level b → top ≡ way b n → (inner : f.label top ≡ Inner)
-          → (k : ℕ) × (n ≡ suc k) × (f.out (far g (tree.inner top inner).dart) ≡ way b k)
-      from b zero outer l e inner = absurd cc
-      from b (suc k) outer l e inner =
-          let w = on b k outer (omega arith) in (
-            k,
-            refl,
-            come_from are valid tree (way b k) (tree.inner top inner).dart w.0 (omega (arith, w.1))
-                (ap f.label (sym e) ∙ inner) (ap f.mate (sym e) ∙ (tree.inner top inner).mate),
-          )
 
   -- The ring has an odd number of places.
   ring_half : (h : ℕ) × (1 ≤ h) × (left + right + 1 ≡ 2 * h + 1)
@@ -126,12 +122,12 @@ module _ {g : Darts} {f : Forest} {r start top left right : ℕ} (fork : Fork g 
   ways_differ i m li lm e = search rules
 
   pub left_differs : (i j : ℕ) → i < j → j ≤ left → way a i ≢ way a j
-  left_differs i j lij lj e = (let same = way_differs are valid tree a i j (outer_named outer_a)
-      (omega (arith, met.x_low)) (omega (arith, met.x_low)) e in omega arith)
+  left_differs i j lij lj e = (let from = on a i outer_a (omega (arith, met.x_low)) in
+      let to = on a j outer_a (omega (arith, met.x_low)) in omega (arith, ap level e))
 
   pub right_differs : (i j : ℕ) → i < j → j < right → way c i ≢ way c j
-  right_differs i j lij lj e = (let same = way_differs are valid tree c i j (outer_named outer_c)
-      (omega (arith, met.y_low)) (omega (arith, met.y_low)) e in omega arith)
+  right_differs i j lij lj e = (let from = on c i outer_c (omega (arith, met.y_low)) in
+      let to = on c j outer_c (omega (arith, met.y_low)) in omega (arith, ap level e))
 
   abbrev at : ℕ → ℕ
   at = ring_at g f a c left
@@ -247,16 +243,12 @@ module _ {g : Darts} {f : Forest} {r start top left right : ℕ} (fork : Fork g 
       mate_on_way : (b n i : ℕ) → f.label b ≡ Outer → n ≤ level b → ((i : ℕ) → i ≤ n → inside (way b i) ≡ true)
           → i < n → way b i ≡ x → inside (f.out (far g d)) ≡ true
       mate_on_way b n i outer_b ln marked l e =
-          by_label i l e (tree_cases (f.label (way b i)) (on b i outer_b (omega (arith, l, ln))).0)
-        where
-          by_label : (i : ℕ) → i < n → way b i ≡ x → (f.label (way b i) ≡ Outer) ⊎ (f.label (way b i) ≡ Inner)
-              → inside (f.out (far g d)) ≡ true
-          by_label i l e (inl outer) =
-              ap inside (outer_above are valid tree (way b i) d outer (ap f.mate e ∙ mate)).0 ∙ marked (suc i) l
-          by_label zero l e (inr inner) = absurd (cc (outer_b, inner))
-          by_label (suc j) l e (inr inner) = let w = on b j outer_b (omega (arith, l, ln)) in
-              ap inside (come_from are valid tree (way b j) d w.0 (omega (arith, w.1, l, ln)) inner
-              (ap f.mate e ∙ mate)) ∙ marked j (omega (arith, l))
+          let own = ap f.mate e ∙ mate in
+          elim (tree_cases (f.label (way b i)) (on b i outer_b (omega arith)).0) [
+            | inl outer ↦ ap inside (step_outer are valid tree (way b i) d outer own).there ∙ marked (suc i) l
+            | inr inner ↦ (let w = came_from b i d _ outer_b (omega arith) refl inner own in
+                ap inside w.2 ∙ marked w.0 (omega (arith, w.1)))
+          ]
 
       mate_inside : x ≢ top → (k : ℕ) × (k < many) × (at k ≡ x) → inside (f.out (far g d)) ≡ true
       mate_inside not_top (k, l, e) = elim (side k) [
@@ -277,7 +269,7 @@ module _ {g : Darts} {f : Forest} {r start top left right : ℕ} (fork : Fork g 
       in_tree = λ x on. (marked_below x on).named;
       above = λ x on. (marked_below x on).depth;
       mates = λ x d on not_top mate. mate_inside mate not_top (marked_at x on);
-      top_mate = λ d mate. listed_off _ _ many _ (λ k l e. (let up = outer_above are valid tree _ d top_outer mate in
+      top_mate = λ d mate. listed_off _ _ many _ (λ k l e. (let up = step_outer are valid tree _ d top_outer mate in
           search (rules, walks, at_below)));
       root_top = λ on. sym (level_zero are valid tree _ top_named
           (omega (arith, root_level are valid tree, (marked_below r on).level)));

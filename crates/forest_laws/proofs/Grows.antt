@@ -31,8 +31,8 @@ option_cases (Some d) = inr (d, refl)
 pub label_cases : (l : Label) → (l ≡ Outside) ⊎ (l ≢ Outside)
 label_cases l = search rules
 
-pub label_is : (l : Label) → (l ≡ Outer) ⊎ ((l ≡ Inner) ⊎ (l ≡ Outside))
-label_is l = search rules
+pub outer_cases : (l : Label) → (l ≡ Outer) ⊎ (l ≢ Outer)
+outer_cases l = search rules
 
 -- The labels differ.
 pub outer_named : {l : Label} → l ≡ Outer → l ≢ Outside
@@ -176,11 +176,6 @@ module _ {g : Darts} {f : Forest} {weight : ℕ → ℤ} {label : ℕ → Label}
       → IsNested g (replaced f weight label mate link)
   nest_stays nested weightless tight = search rules
 
-pub same_outermost : {n : ℕ} {f : Forest} {weight : ℕ → ℤ} {label : ℕ → Label} {mate : ℕ → Option ℕ} {link : ℕ → ℕ}
-    → AreOutermost n f → ((b : ℕ) → label b ≢ Outside → IsOutermost n f b)
-    → AreOutermost n (replaced f weight label mate link)
-same_outermost top named = assumption
-
 -- Only labels, mates and links differ.
 module _ {g : Darts} {f : Forest} {label : ℕ → Label} {mate : ℕ → Option ℕ} {link : ℕ → ℕ} where
   pub same_tight : {d : ℕ} → IsTight g f d → IsTight g (replaced f f.weight label mate link) d
@@ -225,29 +220,21 @@ module _ (g : Darts) (are : AreDarts g) (f : Forest) (r : ℕ) (valid : IsValid 
   pair : IsMate g f inn m
   pair = valid.matched inn m mate
 
-  -- What stands in a table with new values at the two: at the outer one, the inner one, and any other.
-  module _ {X : Type 0} (table : ℕ → X) (at_inn at_outer : X) where
-    abbrev renewed : ℕ → X
-    renewed = set_at (set_at table inn at_inn) outer at_outer
-
-    renewed_outer : renewed outer ≡ at_outer
-    renewed_outer = set_here (set_at table inn at_inn) outer at_outer
-
-    renewed_inner : renewed inn ≡ at_inn
-    renewed_inner = set_there (set_at table _ _) _ _ _ (λ e. pair.other (sym e)) ∙ set_here table _ _
-
-    renewed_other : (x : ℕ) → x ≢ inn → x ≢ outer → renewed x ≡ table x
-    renewed_other x ni nu = set_there (set_at table inn at_inn) outer x at_outer nu ∙ set_there table inn x at_inn ni
-
-    -- A blossom with a place in the tree already is none of the two.
-    renewed_named : (x : ℕ) → f.label x ≢ Outside → renewed x ≡ table x
-    renewed_named x named = renewed_other x (λ e. named (ap f.label e ∙ reach.off)) (search rules)
+  -- A blossom with a place in the tree already is none of the two.
+  same_named : {X : Type 0} (table : ℕ → X) (first second : X) (x : ℕ) → f.label x ≢ Outside
+      → set_at (set_at table inn first) outer second x ≡ table x
+  same_named table first second x named =
+      set_there (set_at table inn first) outer x second (λ e. named (ap f.label e ∙ valid.outside inn m reach.off mate))
+      ∙ set_there table inn x first (λ e. named (ap f.label e ∙ reach.off))
 
   abbrev labels : ℕ → Label
-  labels = renewed f.label Inner Outer
+  labels = set_at (set_at f.label inn Inner) outer Outer
 
   label_named : {x : ℕ} {l : Label} → l ≢ Outside → f.label x ≡ l → labels x ≡ l
-  label_named {x} named e = renewed_named f.label Inner Outer x (λ off. named (sym e ∙ off)) ∙ e
+  label_named {x} named e = same_named f.label Inner Outer x (λ off. named (sym e ∙ off)) ∙ e
+
+  label_inner : labels inn ≡ Inner
+  label_inner = grind (arith, pair.other)
 
   data Place (x : ℕ) : Type 0 where
     is_outer : x ≡ outer → labels x ≡ Outer → Place x
@@ -262,13 +249,13 @@ module _ (g : Darts) (are : AreDarts g) (f : Forest) (r : ℕ) (valid : IsValid 
     deeper = suc (tree.depth on)
 
     abbrev depths : ℕ → ℕ
-    depths = renewed tree.depth deeper deeper
+    depths = set_at (set_at tree.depth inn deeper) outer deeper
 
     depth_inner : depths inn ≡ deeper
-    depth_inner = renewed_inner tree.depth deeper deeper
+    depth_inner = grind arith
 
     depth_named : {x : ℕ} → f.label x ≢ Outside → depths x ≡ tree.depth x
-    depth_named {x} = renewed_named tree.depth deeper deeper x
+    depth_named {x} = same_named tree.depth deeper deeper x
 
     new_inner : IsInner g (grown g f d m) depths inn
     new_inner =
@@ -281,8 +268,8 @@ module _ (g : Darts) (are : AreDarts g) (f : Forest) (r : ℕ) (valid : IsValid 
           nearer = omega (arith, ap depths goes, depth_named (outer_named reach.outer), depth_inner);
           dart = m;
           mate = mate;
-          child = renewed_outer f.label Inner Outer;
-          same = renewed_outer tree.depth deeper deeper ∙ sym depth_inner;
+          child = set_here (set_at f.label inn Inner) outer Outer;
+          same = set_here (set_at tree.depth inn deeper) outer deeper ∙ sym depth_inner;
         }
 
     old_inner : {x : ℕ} → f.label x ≡ Inner → IsInner g f tree.depth x → IsInner g (grown g f d m) depths x
@@ -297,13 +284,13 @@ module _ (g : Darts) (are : AreDarts g) (f : Forest) (r : ℕ) (valid : IsValid 
         | is_other _ _ same ↦ old_inner (sym same ∙ l) (tree.inner x (sym same ∙ l))
       ];
       outer = λ l. elim (place x) [
-        | is_outer at label ↦ (let inner = renewed_inner f.label Inner Outer in
-            inr (g.twin m, ap f.mate at ∙ pair.back, ap labels (ap f.out (far_twin are m) ∙ pair.here) ∙ inner))
+        | is_outer at label ↦ inr (
+          g.twin m,
+          ap f.mate at ∙ pair.back,
+          ap labels (ap f.out (far_twin are m) ∙ pair.here) ∙ label_inner,
+        )
         | is_inner at label ↦ absurd cc
-        | is_other _ _ same ↦ elim (tree.outer x (sym same ∙ l)) [
-          | inl e ↦ inl e
-          | inr is ↦ inr (is.0, is.1, label_named (inner_named refl) is.2)
-        ]
+        | is_other _ _ same ↦ (let old = tree.outer x (sym same ∙ l) in search (rules, label_named, inner_named))
       ];
       outside = λ e l is. (let here = place x in
           let there = place (f.out (far g e)) in
@@ -317,6 +304,7 @@ module _ (g : Darts) (are : AreDarts g) (f : Forest) (r : ℕ) (valid : IsValid 
       let tree = valid.tree r refl in
       let up = far_low g are m pair.tight.low in
       let down = far_low g are d reach.tight.low in
-      tree_valid (depths tree) (same_outermost valid.outermost
-      (λ x is. (let old = valid.outermost.named x in search rules))) (same_nested valid.nested)
+      let named : (x : ℕ) → labels x ≢ Outside → IsOutermost g.n f x =
+      λ x is. (let old = valid.outermost.named x in search rules) in
+      tree_valid (depths tree) (search rules) (same_nested valid.nested)
       (same_feasible valid.feasible) (label_named (outer_named refl) tree.root_outer) tree.root_free (in_order tree)

@@ -1,5 +1,5 @@
 -- Climbing the tree one blossom at a time: each step brings one a level nearer to the root, and so climbing ends.
-use Rattle.std.proofs.Common.{rules, ◌≡◌, ◌≢◌, ℕ, zero, suc, ◌+◌, ◌-◌, ◌*◌, ◌<◌, ◌≤◌, Some, None, ◌⊎◌, sym, ◌∙◌, ap}
+use Rattle.std.proofs.Common.{rules, ◌≡◌, ◌≢◌, ℕ, zero, suc, ◌+◌, ◌*◌, ◌<◌, ◌≤◌, Some, None, ◌⊎◌, sym, ◌∙◌, ap}
 use Rattle.std.proofs.Common.{inl, inr, arith}
 use Rattle.sum_laws.proofs.{Sums.count_below_le, Sums.count_below_lt, Sums.count_below_ones, Tests.once_at_most}
 use Rattle.def_forest.specs.declared.kinds.Label.TheVariants.{Outer, Inner, Outside}
@@ -24,17 +24,12 @@ module _ {g : Darts} (are : AreDarts g) {f : Forest} {r : ℕ} (valid : IsValid 
     pub inner_is : inner_of g f a ≡ f.out (far g d)
     inner_is = ap (λ o. f.out (far g (dart_or o))) mate
 
-    inner_label : f.label (inner_of g f a) ≡ Inner
-    inner_label = ap f.label inner_is ∙ outer_mate are valid a d outer mate
-
     inner_tree : IsInner g f tree.depth (inner_of g f a)
-    inner_tree = tree.inner (inner_of g f a) inner_label
-
-    inner_back : f.mate (inner_of g f a) ≡ Some (g.twin d)
-    inner_back = search (rules, inner_is)
+    inner_tree = tree.inner (inner_of g f a) (ap f.label inner_is ∙ outer_mate are valid a d outer mate)
 
     inner_depth : tree.depth (inner_of g f a) ≡ tree.depth a
-    inner_depth = cc (inner_tree.same, inner_tree.mate, inner_back, (valid.matched a d mate).here, are.twin_twin d)
+    inner_depth = let pair = valid.matched a d mate in
+        cc (inner_is, inner_tree.same, inner_tree.mate, pair.back, pair.here, are.twin_twin d)
 
   -- How many blossoms are nearer to the root.
   abbrev nearer_to : ℕ → ℕ → ℕ
@@ -78,17 +73,6 @@ module _ {g : Darts} (are : AreDarts g) {f : Forest} {r : ℕ} (valid : IsValid 
   abbrev way : ℕ → ℕ → ℕ
   way = way_of g f
 
-  -- The dart up from an outer blossom and its level, and those of an inner one.
-  at_outer : (b : ℕ) → f.label b ≡ Outer → (rise_of f b ≡ f.mate b) × (level b ≡ 2 * steps g f (f.size + 1) b)
-  at_outer b e = (rw e, rw e)
-
-  at_inner : (b : ℕ) → f.label b ≡ Inner → (rise_of f b ≡ Some (f.link b))
-      × (level b ≡ 2 * steps g f (f.size + 1) (inner_of g f b) - 1)
-  at_inner b e = (rw e, rw e)
-
-  above_is : (b d : ℕ) → rise_of f b ≡ Some d → above b ≡ f.out (far g d)
-  above_is b d e = ap (λ o. f.out (far g (dart_or o))) e
-
   -- What one step up is.
   pub record IsStep (b d : ℕ) : Type 0 where
     pub tight : IsTight g f d
@@ -98,7 +82,8 @@ module _ {g : Darts} (are : AreDarts g) {f : Forest} {r : ℕ} (valid : IsValid 
     pub lower : level b ≡ suc (level (above b))
     pub depth : tree.depth (above b) ≤ tree.depth b
 
-  step_outer : (b d : ℕ) → f.label b ≡ Outer → f.mate b ≡ Some d → IsStep b d
+  -- The mate of an outer blossom is where one comes to.
+  pub step_outer : (b d : ℕ) → f.label b ≡ Outer → f.mate b ≡ Some d → IsStep b d
   step_outer b d outer mate = let pair = valid.matched b d mate in search (rules, far_twin)
 
   step_inner : (b : ℕ) → f.label b ≡ Inner → IsStep b (f.link b)
@@ -113,8 +98,8 @@ module _ {g : Darts} (are : AreDarts g) {f : Forest} {r : ℕ} (valid : IsValid 
   -- A step up from a blossom of the tree.
   pub step_up : (b d : ℕ) → f.label b ≢ Outside → rise_of f b ≡ Some d → IsStep b d
   step_up b d named rise = elim (tree_cases (f.label b) named) [
-    | inl outer ↦ step_outer b d outer (sym (at_outer b outer).0 ∙ rise)
-    | inr inner ↦ rw (some_is d (f.link b) (sym rise ∙ (at_inner b inner).0)) (step_inner b inner)
+    | inl outer ↦ step_outer b d outer (rw outer at rise)
+    | inr inner ↦ rw (some_is d _ (sym (rw inner at rise))) (step_inner b inner)
   ]
 
   -- Where there is none one is at the root.
@@ -131,7 +116,7 @@ module _ {g : Darts} (are : AreDarts g) {f : Forest} {r : ℕ} (valid : IsValid 
   level_some b named some = search (rules, at_root)
 
   pub root_level : level r ≡ 0
-  root_level = (at_root r (outer_named tree.root_outer) ((at_outer r tree.root_outer).0 ∙ tree.root_free)).1
+  root_level = (at_root r (outer_named tree.root_outer) (rw tree.root_outer tree.root_free)).1
 
   -- Along a way the levels fall one by one, and one stays in the tree.
   pub on_way : (a m : ℕ) → f.label a ≢ Outside → m ≤ level a → (f.label (way a m) ≢ Outside)
@@ -154,25 +139,6 @@ module _ {g : Darts} (are : AreDarts g) {f : Forest} {r : ℕ} (valid : IsValid 
   pub way_depth : (a m : ℕ) → f.label a ≢ Outside → m ≤ level a → tree.depth (way a m) ≤ tree.depth a
   way_depth a zero named l = omega arith
   way_depth a (suc m) named l = omega (arith, way_depth a m named (omega (arith, l)), (way_step a m named l).depth)
-
-  -- Two places of one way differ.
-  pub way_differs : (a i j : ℕ) → f.label a ≢ Outside → i ≤ level a → j ≤ level a → way a i ≡ way a j → i ≡ j
-  way_differs a i j named li lj e = omega (arith, ap level e, (on_way a i named li).1, (on_way a j named lj).1)
-
-  -- An inner blossom is come to from what it is matched to.
-  pub come_from : (b e : ℕ) → f.label b ≢ Outside → 1 ≤ level b → f.label (above b) ≡ Inner → f.mate (above b) ≡ Some e
-      → f.out (far g e) ≡ b
-  come_from b e named some inner mate = elim (tree_cases (f.label b) named) [
-    | inr low ↦ absurd (cc (above_is b (f.link b) (at_inner b low).0, (tree.inner b low).above))
-    | inl outer ↦ (let d = level_some b named some in
-        let pair = valid.matched b d.0 (sym (at_outer b outer).0 ∙ d.1) in
-        cc (above_is b d.0 d.1, mate, pair.back, far_twin are d.0, pair.here))
-  ]
-
-  -- The mate of an outer blossom is where one comes to.
-  pub outer_above : (b d : ℕ) → f.label b ≡ Outer → f.mate b ≡ Some d → (f.out (far g d) ≡ above b)
-      × (level b ≡ suc (level (above b)))
-  outer_above b d outer mate = let s = step_outer b d outer mate in (s.there, s.lower)
 
 -- There are no more steps than the bound.
 steps_low : (g : Darts) (f : Forest) (k a : ℕ) → steps g f k a ≤ k

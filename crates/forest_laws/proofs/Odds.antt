@@ -1,10 +1,10 @@
 -- Each blossom holds an odd number of vertices, and there are fewer than half as many sets as vertices: each set has
 -- three parts at least.
 use Rattle.std.proofs.Common.{rules, ◌≡◌, ◌≢◌, ℕ, zero, suc, ◌+◌, ◌*◌, ◌%◌, ◌<◌, ◌≤◌, ◌⊎◌, true, cond, eqb, refl, sym}
-use Rattle.std.proofs.Common.{◌∙◌, ap, inl, inr, arith}
-use Rattle.std.proofs.lemmas.Bool.{cases_eq, cases_lt, eq-eqb, ne_eqb, lt-ltb, le-ltb}
+use Rattle.std.proofs.Common.{◌∙◌, ap, inl, inr, arith, min}
+use Rattle.std.proofs.lemmas.Bool.{cases_lt, eq-eqb, ne_eqb, le-ltb}
 use Rattle.sum_laws.proofs.Sums.{count_below_same, count_below_le, count_below_sum, count_below_none, count_below_one}
-use Rattle.sum_laws.proofs.Sums.{count_below_ones, count_below_times}
+use Rattle.sum_laws.proofs.Sums.{count_below_times}
 use Rattle.def_forest.specs.Forests.{Forest, blossom_size, bool_number, live_at, ring_sum, sets_of, walk}
 use Rattle.def_forest.specs.{Darts.Darts, Darts.AreDarts, Valid.AreOutermost, Valid.IsNested, Valid.IsRing}
 use Rattle.{std.specs.Prelude.nat_lt, def_math.specs.Counts.count_below}
@@ -97,13 +97,9 @@ three_low less more at differ each low p =
     grind (arith, differ 0 1, differ 0 2, differ 1 2, each 0, each 1, each 2, low p)
 
 -- So many numbers are below another.
-count_low : (n m : ℕ) → n ≤ m → count_below (λ p. bool_number (nat_lt p n)) m ≡ n
-count_low n zero l = omega arith
-count_low n (suc m) l = elim (cases_lt m n) [
-  | inl h ↦ (let all = count_below_same _ _ m (λ k lk. ap bool_number (lt-ltb k n (omega arith))) in
-      rw (lt-ltb m n h) (omega (arith, count_below_ones m)))
-  | inr h ↦ rw (le-ltb m n h) (omega (arith, count_low n m h))
-]
+count_low : (n m : ℕ) → count_below (λ p. bool_number (nat_lt p n)) m ≡ min n m
+count_low n zero = omega arith
+count_low n (suc m) = grind (arith, cases_lt m n, count_low n m)
 
 pub live_none : {n : ℕ} (parts : ℕ → ℕ) {b : ℕ} → n ≤ b → parts b ≡ 0 → live_at n parts b ≡ 0
 live_none {n} parts {b} h e = rw (le-ltb b n h, eq-eqb (parts b) 0 e)
@@ -122,35 +118,19 @@ module _ (g : Darts) (are : AreDarts g) (f : Forest) (nested : IsNested g f) (ve
   abbrev used : ℕ → ℕ
   used p = bool_number (nat_lt p g.n) + live_at g.n f.nest.parts p
 
-  is_part : {p b : ℕ} → f.nest.up p ≡ b → p ≢ b → part p b ≡ 1
-  is_part {p} {b} e ne = rw (eq-eqb (f.nest.up p) b e, ne_eqb p b ne)
-
-  is_inner : {p : ℕ} → f.nest.up p ≢ p → inner p ≡ 1
-  is_inner {p} ne = rw (ne_eqb (f.nest.up p) p ne)
-
   three_parts : (b : ℕ) → IsRing g f b → 3 ≤ count_below (λ p. part p b) f.size
   three_parts b ring =
-      let one : (k : ℕ) → 1 ≤ part (walk f.nest.after (f.nest.head b) k) b = λ k. omega (
-        arith,
-        is_part (ring.inside k) (λ e. absurd (omega (arith, ap f.nest.rank e, ring.lower k))),
-      ) in
       let at = walk f.nest.after (f.nest.head b) in
+      let one : (k : ℕ) → 1 ≤ part (at k) b = λ k. grind (arith, ring.inside k, ring.lower k) in
       let below = count_below_le (three at) (λ p. part p b) f.size (λ p l. (let low = three_low (λ x. 0)
       (λ x. part x b) at (search rules) (λ k l. one k) (λ x. omega arith) p in omega arith)) in
       omega (arith, three_count at f.size (λ k l. ring.below k))
 
   one_set : (p : ℕ) → count_below (part p) f.size ≤ inner p
-  one_set p = elim (cases_eq (f.nest.up p) p) [
-    | inl top ↦ omega (arith, count_below_none _ f.size (λ b l. off b (λ up self. self (sym top ∙ up))))
-    | inr ne ↦ elim (cases_lt (f.nest.up p) f.size) [
-      | inl l ↦ (let one = count_below_one _ _ _ l (λ b lb nb. off b (λ up self. nb (sym up))) in
-          omega (arith, is_inner ne, is_part refl (λ e. ne (sym e))))
-      | inr h ↦ omega (arith, count_below_none _ f.size (λ b l. off b (λ up self. absurd (omega (arith, up)))))
-    ]
+  one_set p = elim (cases_lt (f.nest.up p) f.size) [
+    | inl l ↦ (let one = count_below_one (part p) f.size (f.nest.up p) l (λ b lb nb. grind arith) in grind arith)
+    | inr h ↦ omega (arith, count_below_none (part p) f.size (λ b l. grind arith))
   ]
-    where
-      off : (b : ℕ) → (f.nest.up p ≡ b → p ≢ b → ⊥) → part p b ≡ 0
-      off b none = grind arith
 
   -- What is in use, with so many outermost blossoms marked that are no parts: three times the sets are few.
   sets_beside : (tops : ℕ → ℕ) → ((p : ℕ) → p < f.size → inner p + tops p ≤ used p)
@@ -165,7 +145,7 @@ module _ (g : Darts) (are : AreDarts g) (f : Forest) (nested : IsNested g f) (ve
       let sets = count_below_le (λ p. count_below (part p) f.size) inner f.size (λ p l. one_set p) in
       let more = count_below_le (λ p. inner p + tops p) used f.size each in
       let sum = count_below_sum inner tops f.size in
-      omega (arith, count_low g.n f.size vertices)
+      omega (arith, count_low g.n f.size)
 
   inner_low : (p : ℕ) → inner p ≤ used p
   inner_low p = search rules

@@ -1,7 +1,7 @@
 -- What stays where only a set of weight 0 holds other vertices and has other parts than before.
 use Rattle.std.proofs.Common.{◌≡◌, ◌≢◌, ℕ, zero, suc, ◌<◌, ◌≤◌, false, cond, ℤ, pos, refl, sym, ◌∙◌, ap, subst, inl}
 use Rattle.std.proofs.Common.{inr, arith, Bool, true, eqb, Option, Some, ◌+ℤ◌, ◌-ℤ◌, rules}
-use Rattle.std.proofs.lemmas.{Bool.cases_eq, Bool.cond-true, Bool.cond-false, Bool.eq-eqb, Bool.ne_eqb, Int.ints}
+use Rattle.std.proofs.lemmas.{Bool.cases_eq, Bool.eq-eqb, Bool.ne_eqb, Int.ints}
 use Rattle.sum_laws.proofs.Sums.{total_below_same, total_below_sum, total_below_minus, total_below_none}
 use Rattle.sum_laws.proofs.Sums.{total_below_one}
 use Rattle.def_forest.specs.Forests.{Forest, weight_between, IsTight, walk, ring_sum, dual_sum_of}
@@ -9,8 +9,8 @@ use Rattle.def_forest.specs.Valid.{IsFeasible, IsNested, IsRing, IsJoint, IsTree
 use Rattle.def_forest.specs.declared.kinds.Label.TheVariants.{Outer, Inner, Outside}
 use Rattle.def_forest.specs.{Darts.Darts, Darts.AreDarts, Darts.far, Opened.KeepsParts, Steps.weight_change}
 use Rattle.def_forest.specs.{Steps.shifted, Ways.inner_of, Ways.dart_or, declared.kinds.Label.Label}
-use Rattle.forest_laws.proofs.Grows.{inner_named, label_cases, label_is, outer_named, far_low, far_twin, inner_mate}
-use Rattle.forest_laws.proofs.Grows.{named_low, outer_mate, load_apart, load_within, nest_stays, same_outermost}
+use Rattle.forest_laws.proofs.Grows.{inner_named, label_cases, outer_cases, outer_named, far_low, far_twin, inner_mate}
+use Rattle.forest_laws.proofs.Grows.{named_low, outer_mate, load_apart, load_within, nest_stays}
 use Rattle.def_math.specs.Sums.{total_below}
 
 -- Walks and sums along a ring that two tables have in common.
@@ -74,11 +74,8 @@ module _ {g : Darts} (are : AreDarts g) {f new : Forest} {b : ℕ} (changed : Ch
       at : ℕ → ℕ
       at k = walk f.nest.after (f.nest.head c) k
 
-      lower_ne : (k : ℕ) → walk f.nest.after (f.nest.head c) k ≢ c
-      lower_ne k e = let h = subst (λ x. f.nest.rank x < f.nest.rank c) e (ring.lower k) in absurd (omega (arith, h))
-
       old : (k : ℕ) → StaysOn (at k)
-      old k = stays (walk f.nest.after (f.nest.head c) k) (ring.inside k) (lower_ne k)
+      old k = stays (at k) (ring.inside k) (λ e. absurd (omega (arith, ap f.nest.rank e, ring.lower k)))
 
       walks : (k : ℕ) → walk new.nest.after (new.nest.head c) k ≡ at k
       walks k = rw set.head (walk_same f.nest.after new.nest.after (f.nest.head c) (λ j. (old j).after) k)
@@ -116,12 +113,9 @@ module _ {g : Darts} (are : AreDarts g) {f : Forest} {root : Option ℕ} (valid 
   still_tight {d} tight none =
       let near = are.near_low d tight.low in
       let end = far_low g are d tight.low in
-      record {
-        low = tight.low;
-        exact = (let inner = load_within valid.outermost t (g.near d) (far g d) near end in
-            let apart = load_apart valid.outermost t (g.near d) (far g d) near end in
-            grind (arith, ints, cases_eq (f.out (g.near d)) (f.out (far g d)), none, tight.exact));
-      }
+      let inner = load_within valid.outermost t (g.near d) (far g d) near end in
+      let apart = load_apart valid.outermost t (g.near d) (far g d) near end in
+      grind (arith, ints, cases_eq (f.out (g.near d)) (f.out (far g d)), none, tight)
 
   shifted_tree : {r : ℕ} → IsTree g f r → IsTree g (shifted f t) r
   shifted_tree tree = record {
@@ -144,7 +138,7 @@ module _ {g : Darts} (are : AreDarts g) {f : Forest} {root : Option ℕ} (valid 
   -- A shift whose end is feasible keeps the forest valid.
   pub shift_valid : IsFeasible g (shifted f t) → IsValid g (shifted f t) root
   shift_valid feasible = record {
-    outermost = same_outermost valid.outermost valid.outermost.named;
+    outermost = search rules;
     nested = shifted_nest;
     feasible = feasible;
     matched = λ b d mate. (let is = valid.matched b d mate in
@@ -170,10 +164,12 @@ is_inner Inner = true
 is_inner Outer = false
 is_inner Outside = false
 
--- The sum of what stands at one place only.
-sum_at : (t : ℤ) {x n : ℕ} → x < n → total_below (λ b. cond (eqb b x) t (pos 0)) n ≡ t
-sum_at t {x} {n} l = total_below_one (λ b. cond (eqb b x) t (pos 0)) n x l (λ k lk ne. cond-false _ _ _ (ne_eqb k x ne))
-    ∙ cond-true _ _ _ (eq-eqb x x refl)
+-- The sum of what stands at one place only, or nowhere.
+sum_at : (t : ℤ) (on : Bool) {x n : ℕ} → (on ≡ true → x < n)
+    → total_below (λ b. cond on (cond (eqb b x) t (pos 0)) (pos 0)) n ≡ cond on t (pos 0)
+sum_at t true {x} {n} l = total_below_one (λ b. cond (eqb b x) t (pos 0)) n x (l refl) (λ k lk ne. rw (ne_eqb k x ne))
+    ∙ rw (eq-eqb x x refl)
+sum_at t false {x} {n} l = total_below_none (λ b. pos 0) n (λ b lb. refl)
 
 module _ {g : Darts} (are : AreDarts g) {f : Forest} {r : ℕ} (valid : IsValid g f (Some r)) (tree : IsTree g f r)
     (t : ℤ) where
@@ -187,9 +183,9 @@ module _ {g : Darts} (are : AreDarts g) {f : Forest} {r : ℕ} (valid : IsValid 
   hit_other : (x b : ℕ) → (b ≡ x → ⊥) → hit x b ≡ pos 0
   hit_other x b ne = rw (ne_eqb b x ne)
 
-  -- What an inner blossom and the outer one that it is matched to count for at a place.
+  -- What an inner blossom counts for at a place: something where its mate is.
   abbrev pair_at : ℕ → ℕ → ℤ
-  pair_at b c = cond (is_inner (f.label c)) (hit (inner_of g f c) b -ℤ hit c b) (pos 0)
+  pair_at b c = cond (is_inner (f.label c)) (hit (inner_of g f c) b) (pos 0)
 
   -- The mate of an inner blossom, as the function has it.
   child_is : {c : ℕ} (inner : f.label c ≡ Inner) → inner_of g f c ≡ f.out (far g (tree.inner c inner).dart)
@@ -202,64 +198,48 @@ module _ {g : Darts} (are : AreDarts g) {f : Forest} {r : ℕ} (valid : IsValid 
   child_mate {c} inner = let is = tree.inner c inner in
       ap f.mate (child_is inner) ∙ (valid.matched c is.dart is.mate).back
 
-  pair_inner : (b : ℕ) {c : ℕ} → f.label c ≡ Inner → pair_at b c ≡ hit (inner_of g f c) b -ℤ hit c b
-  pair_inner b {c} e = cond-true _ _ _ (ap is_inner e)
+  pair_none : {b c : ℕ} → (f.label c ≡ Inner → inner_of g f c ≡ b → ⊥) → pair_at b c ≡ pos 0
+  pair_none {b} {c} off = grind (arith, ints)
 
-  pair_none : {b c : ℕ} → (f.label c ≡ Inner → inner_of g f c ≡ b → ⊥) → (f.label c ≡ Inner → c ≡ b → ⊥)
-      → pair_at b c ≡ pos 0
-  pair_none {b} {c} mate_off off = grind (arith, ints)
-
-  -- The inner blossoms and their mates count at a place what a shift changes there, but for the root.
-  at_place : (b : ℕ) → b < f.size → total_below (pair_at b) f.size ≡ weight_change (f.label b) t -ℤ hit r b
-  at_place b lb = elim (label_is (f.label b)) [
+  -- At an outer blossom but for the root the inner one to which it is matched counts, and elsewhere none.
+  at_place : (b : ℕ) → b < f.size → total_below (pair_at b) f.size
+      ≡ (weight_change (f.label b) t +ℤ cond (is_inner (f.label b)) t (pos 0)) -ℤ hit r b
+  at_place b lb = elim (outer_cases (f.label b)) [
     | inl outer ↦ rw outer (elim (tree.outer b outer) [
       | inl e ↦ (let none = total_below_none (pair_at b) f.size (λ c lc. pair_none
-          (λ inner at. cc (child_mate inner, tree.root_free)) (λ inner at. cc)) in
+          (λ inner at. cc (child_mate inner, tree.root_free))) in
           omega (arith, ints, hit_same r b e))
       | inr w ↦ (let c0 = f.out (far g w.0) in
           let pair = valid.matched b w.0 w.1 in
           let back = ap (λ o. f.out (far g (dart_or o))) pair.back ∙ ap f.out (far_twin are w.0) ∙ pair.here in
           let one = total_below_one (pair_at b) f.size c0 (named_low are valid (inner_named w.2)) (λ c lc ne. pair_none
           (λ inner at. (let is = tree.inner c inner in
-          ne (cc (child_mate inner, w.1, are.twin_twin is.dart, (valid.matched c is.dart is.mate).here))))
-          (λ inner at. cc)) in
+          ne (cc (child_mate inner, w.1, are.twin_twin is.dart, (valid.matched c is.dart is.mate).here))))) in
           search (rules, hit_same, inner_of, hit_other))
     ])
-    | inr (inl inner) ↦ rw inner (
-        let child_off = λ (c : ℕ) (lc : f.label c ≡ Inner) (at : inner_of g f c ≡ b).
-        outer_inner (sym (ap f.label at) ∙ child_outer lc) inner in
-        let one = total_below_one (pair_at b) f.size b lb (λ c lc ne. pair_none (child_off c) (λ _. ne)) in
-        let own = pair_inner b inner in
-        let mate = hit_other (inner_of g f b) b (λ e. child_off b inner (sym e)) in
-        omega (arith, ints, hit_same b b refl, hit_other r b (λ e. cc tree.root_outer)))
-    | inr (inr off) ↦ rw off (
-        let none = total_below_none (pair_at b) f.size (search (rules, child_outer)) in
-        omega (arith, ints, hit_other r b (λ e. cc tree.root_outer)))
+    | inr ne ↦ (let none = total_below_none (pair_at b) f.size (λ c lc. pair_none
+        (λ inner at. ne (sym (ap f.label at) ∙ child_outer inner))) in
+        omega (arith, ints, change_off (f.label b) ne, hit_other r b (λ e. ne (ap f.label e ∙ tree.root_outer))))
   ]
     where
-      outer_inner : {l : Label} → l ≡ Outer → l ≡ Inner → ⊥
-      outer_inner outer inner = cc
+      change_off : (l : Label) → l ≢ Outer → weight_change l t +ℤ cond (is_inner l) t (pos 0) ≡ pos 0
+      change_off l ne = grind (arith, ints)
 
-  -- An inner blossom and its mate count for nothing together.
-  pairs_none : (c : ℕ) → c < f.size → total_below (λ b. pair_at b c) f.size ≡ pos 0
-  pairs_none c lc = elim (label_is _) [
-    | inl e ↦ total_below_none _ f.size (λ b l. cond-false _ _ _ (ap is_inner e))
-    | inr (inl e) ↦ (let same = total_below_same _ _ f.size (λ b lb. pair_inner b e) in
-        let parts = total_below_minus (hit (inner_of g f c)) (hit c) f.size in
-        let mate = sum_at t (named_low are valid (outer_named (child_outer e))) in
-        omega (arith, ints, sum_at t lc))
-    | inr (inr e) ↦ total_below_none _ f.size (λ b l. cond-false _ _ _ (ap is_inner e))
-  ]
+  -- An inner blossom counts once.
+  once : (c : ℕ) → c < f.size → total_below (λ b. pair_at b c) f.size ≡ cond (is_inner (f.label c)) t (pos 0)
+  once c lc = sum_at t (is_inner (f.label c)) (λ on. named_low are valid (outer_named (child_outer (grind arith))))
 
   -- The sum of the changes.
   changes : total_below (λ b. weight_change (f.label b) t) f.size ≡ t
   changes =
+      let inner = λ (b : ℕ). cond (is_inner (f.label b)) t (pos 0) in
+      let change = λ (b : ℕ). weight_change (f.label b) t in
       let places = total_below_same _ _ _ at_place in
-      let pairs = total_below_none _ _ pairs_none in
-      let root = sum_at t (named_low are valid (outer_named tree.root_outer)) in
+      let pairs = total_below_same _ _ _ once in
+      let root = sum_at t true (λ _. named_low are valid (outer_named tree.root_outer)) in
       let orders = sums_exchanged pair_at f.size f.size in
-      let parts = total_below_minus (λ b. weight_change (f.label b) t) (hit r) f.size in
-      omega (arith, ints)
+      let parts = total_below_minus (λ b. change b +ℤ inner b) (hit r) f.size in
+      omega (arith, ints, total_below_sum change inner f.size)
 
   -- A shift raises the sum by t.
   pub sum_rises : dual_sum_of (shifted f t) ≡ dual_sum_of f +ℤ t

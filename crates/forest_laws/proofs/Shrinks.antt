@@ -1,7 +1,7 @@
 -- A shrink keeps a forest valid: a cycle of tight darts in its tree becomes one outer blossom.
-use Rattle.std.proofs.Common.{rules, ◌≡◌, ◌≢◌, ℕ, suc, ◌<◌, ◌≤◌, Bool, true, false, cond, eqb, Some, None, refl, sym}
+use Rattle.std.proofs.Common.{rules, ◌≡◌, ◌≢◌, ℕ, suc, ◌<◌, ◌≤◌, Bool, true, false, cond, eqb, Some, refl, sym}
 use Rattle.std.proofs.Common.{◌∙◌, ap, inl, inr, arith}
-use Rattle.std.proofs.lemmas.Bool.{cases_Bool, cond_both, false_from_ne_true, eq-eqb, ne_eqb}
+use Rattle.std.proofs.lemmas.Bool.{cases_Bool, false_from_ne_true, eq-eqb, ne_eqb}
 use Rattle.def_forest.specs.Forests.{Forest, IsTight, IsOutermost, bool_number, set_at, walk}
 use Rattle.def_forest.specs.{Valid.AreOutermost, Valid.IsInner, Valid.IsJoint, Valid.IsNested, Valid.IsRing}
 use Rattle.def_forest.specs.{Valid.IsTree, Valid.IsValid, Darts.Darts, Darts.AreDarts, Darts.far, Shrunk.IsUnused}
@@ -39,10 +39,6 @@ module _ {g : Darts} {f : Forest} {r : ℕ} {new : Forest} {inside : ℕ → Boo
   marked_old x on e = cycle.in_tree x on (ap f.label e ∙ unused.outside)
 
   -- The outermost blossoms of vertices.
-  out_cases : (P : ℕ → Type 0) (v : ℕ) → v < g.n → (inside (f.out v) ≡ true → P b)
-      → (inside (f.out v) ≡ false → P (f.out v)) → P (new.out v)
-  out_cases P v low on off = rw (is.out v low) (cond_both _ _ _ P on off)
-
   pub out_on : (v : ℕ) → v < g.n → inside (f.out v) ≡ true → new.out v ≡ b
   out_on v low on = rw on at (is.out v low)
 
@@ -61,17 +57,8 @@ module _ {g : Darts} {f : Forest} {r : ℕ} {new : Forest} {inside : ℕ → Boo
   pub mate_b : new.mate b ≡ f.mate top
   mate_b = is.mate b ∙ rw (eq-eqb b b refl)
 
-  pub mate_on : (x : ℕ) → inside x ≡ true → new.mate x ≡ None
-  mate_on x on = is.mate x ∙ rw (ne_eqb x b (marked_old x on), on)
-
   pub mate_off : (x : ℕ) → x ≢ b → inside x ≡ false → new.mate x ≡ f.mate x
   mate_off x ne off = is.mate x ∙ rw (ne_eqb x b ne, off)
-
-  up_b : new.nest.up b ≡ b
-  up_b = is.up b ∙ rw (eq-eqb b b refl)
-
-  up_on : (x : ℕ) → inside x ≡ true → new.nest.up x ≡ b
-  up_on x on = is.up x ∙ rw (ne_eqb x b (marked_old x on), on)
 
   up_off : (x : ℕ) → x ≢ b → inside x ≡ false → new.nest.up x ≡ f.nest.up x
   up_off x ne off = is.up x ∙ rw (ne_eqb x b ne, off)
@@ -96,22 +83,15 @@ module _ {g : Darts} {f : Forest} {r : ℕ} {new : Forest} {inside : ℕ → Boo
   pub new_outermost : AreOutermost g.n new
   new_outermost = record {
     vertices = rw is.size valid.outermost.vertices;
-    out_low = λ v l. rw is.size (out_cases (λ x. x < f.size) v l (λ on. unused.low)
-        (λ off. valid.outermost.out_low v l));
+    out_low = λ v l. grind (arith, is.size, is.out v l, unused.low, valid.outermost.out_low v l);
     held = λ u v lu lv. (let was = valid.outermost.held u v lu lv in
         let none = unused.no_out v lv in
         grind (arith, is.out u lu, is.out v lv, is.holds_new v lv, is.holds_old (f.out u) v, unused.no_out u lu));
-    tops = λ v l. grind (arith, is.out v l, up_b, up_off (f.out v) (unused.no_out v l), valid.outermost.tops v l);
-    together = λ x u v lu lv hu hv. (let new_u = is.holds_new u lu in
-        let new_v = is.holds_new v lv in
-        grind (arith, is.out u lu, is.out v lv, is.holds_old x u, is.holds_old x v));
-    named = λ x n. elim (place x) [
-      | is_new e ↦ (let w = marked_out top cycle.top_in in
-          (w.0, w.1, out_on w.0 w.1 (ap inside w.2 ∙ cycle.top_in) ∙ sym e))
-      | on_cycle on ↦ absurd (n (label_on x on))
-      | beside ne off ↦ (let w = valid.outermost.named x (λ o. n (label_off x ne off ∙ o)) in
-          (w.0, w.1, out_off w.0 w.1 (ap inside w.2 ∙ off) ∙ w.2))
-    ];
+    tops = λ v l. grind (arith, is.out v l, is.up b, is.up (f.out v), unused.no_out v l, valid.outermost.tops v l);
+    together = λ x u v lu lv hu hv. (let new_u = is.holds_new u lu in let new_v = is.holds_new v lv in
+        grind (arith, is.out u lu, is.out v lv, is.holds_old x));
+    named = λ x n. (let w = marked_out top cycle.top_in in let old = valid.outermost.named x in
+        search (rules, place x, out_on, out_off, label_on, label_off, cycle.top_in));
   }
 
   -- The ring of another set, and the new ring.
@@ -127,7 +107,7 @@ module _ {g : Darts} {f : Forest} {r : ℕ} {new : Forest} {inside : ℕ → Boo
     some = row.some;
     odd = parts_b ∙ row.odd;
     closed = rw (parts_b, head_b) row.closed;
-    inside = λ k. rw head_b (up_on (at k) (row.marked k));
+    inside = λ k. rw head_b (grind (arith, is.up (at k), row.marked k));
     lower = λ k. rw (head_b, is.rank (at k) (marked_old (at k) (row.marked k))) (is.ranked (at k) (row.marked k));
     below = λ k. (let w = marked_out (at k) (row.marked k) in
         rw (head_b, is.size, ← w.2) (valid.outermost.out_low w.0 w.1));
@@ -165,8 +145,9 @@ module _ {g : Darts} {f : Forest} {r : ℕ} {new : Forest} {inside : ℕ → Boo
 
   pub new_nested : IsNested g new
   new_nested = same_nested are changes valid.nested (λ some. ring_new) (λ v l none. absurd (some_parts none))
-      (λ c ne. ring_old ne) (λ p inner. search (rules, place p, up_b, up_on, up_off, some_parts))
-      (λ p inner. search (rules, place p, up_b, up_off, joint_new, joint_old))
+      (λ c ne. ring_old ne) (λ p inner. (let live = valid.nested.live p in let parts = is.parts (f.nest.up p) in
+      grind (arith, place p, is.up p, unused.high, some_parts, unused.around_none p)))
+      (λ p inner. search (rules, place p, is.up, up_off, joint_new, joint_old))
     where
       some_parts : new.nest.parts b ≢ 0
       some_parts none = absurd (omega (arith, sym parts_b ∙ none, row.odd))
@@ -187,21 +168,15 @@ module _ {g : Darts} {f : Forest} {r : ℕ} {new : Forest} {inside : ℕ → Boo
     pub beyond_off : inside (f.out (far g d)) ≡ false → new.out (far g d) ≡ f.out (far g d)
     beyond_off = out_off (far g d) (far_low g are d tight.low)
 
-    pub beyond_other : f.out (far g d) ≢ b
-    beyond_other = unused.no_out (far g d) (far_low g are d tight.low)
-
     pub beyond_label : inside (f.out (far g d)) ≡ false → new.label (new.out (far g d)) ≡ f.label (f.out (far g d))
-    beyond_label off = ap new.label (beyond_off off) ∙ label_off (f.out (far g d)) beyond_other off
+    beyond_label off = ap new.label (beyond_off off) ∙ label_off _ (unused.no_out _ (far_low g are d tight.low)) off
 
     beyond_mate : inside (f.out (far g d)) ≡ false → new.mate (new.out (far g d)) ≡ f.mate (f.out (far g d))
-    beyond_mate off = ap new.mate (beyond_off off) ∙ mate_off (f.out (far g d)) beyond_other off
+    beyond_mate off = ap new.mate (beyond_off off) ∙ mate_off _ (unused.no_out _ (far_low g are d tight.low)) off
 
   -- The tree: the new blossom is as deep as the top was.
   abbrev depths : ℕ → ℕ
   depths = set_at tree.depth b (tree.depth top)
-
-  depth_b : depths b ≡ tree.depth top
-  depth_b = set_here tree.depth b (tree.depth top)
 
   -- Where a dart leads to an outer blossom, it leads to an outer one that is no deeper.
   outer_after : {d : ℕ} → IsTight g f d → f.label (f.out (far g d)) ≡ Outer → (new.label (new.out (far g d)) ≡ Outer)
@@ -215,7 +190,8 @@ module _ {g : Darts} {f : Forest} {r : ℕ} {new : Forest} {inside : ℕ → Boo
       let link = is.link c in let tight = same_tight old.tight in let here = near_off old.tight old.here off in
       let child = outer_after down old.child in
       let same : depths (new.out (far g old.dart)) ≡ depths c = (let top_is = only_top c old.dart off old.mate in
-      grind (arith, cases_Bool (inside (f.out (far g old.dart))), beyond_on down, depth_b, beyond_off)) in
+      let at_b = set_here tree.depth b (tree.depth top) in
+      grind (arith, cases_Bool (inside (f.out (far g old.dart))), beyond_on down, beyond_off)) in
       search rules
 
   -- The new blossom, and one beside the cycle.
@@ -256,7 +232,8 @@ module _ {g : Darts} {f : Forest} {r : ℕ} {new : Forest} {inside : ℕ → Boo
   in_order : (c : ℕ) → IsInOrder g new (cond (inside r) b r) depths c
   in_order c = elim (place c) [
     | is_new e ↦ rw e order_new
-    | on_cycle on ↦ (let label = label_on c on in let mate = mate_on c on in search rules)
+    | on_cycle on ↦ (let label = label_on c on in
+        let mate = rw (ne_eqb c b (marked_old c on), on) at (is.mate c) in search rules)
     | beside ne off ↦ order_old c ne off
   ]
 

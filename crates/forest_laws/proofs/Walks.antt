@@ -1,7 +1,7 @@
 -- The potentials of the vertices of one blossom have one parity, and so have those of all vertices in the tree.
 use Rattle.std.proofs.Common.{rules, ◌≡◌, ℕ, zero, suc, ◌<◌, ◌≤◌, Bool, true, not, cond, length, Option, ℤ, pos, ◌+ℤ◌}
-use Rattle.std.proofs.Common.{◌-ℤ◌, refl, sym, ◌∙◌, ap, inl, inr, arith, ◌≢◌, ◌+◌, false, ◌||◌, eqb, ◌-◌, subst}
-use Rattle.std.proofs.lemmas.Bool.{cases_lt, eq-eqb, eqb-true}
+use Rattle.std.proofs.Common.{◌-ℤ◌, refl, sym, ◌∙◌, ap, inl, inr, arith, ◌≢◌, ◌+◌, false, ◌||◌, eqb}
+use Rattle.std.proofs.lemmas.Bool.{cases_lt, cases_eq, eq-eqb, eqb-true}
 use Rattle.{std.proofs.lemmas.Int.ints, forest_laws.proofs.Bounds.are_darts}
 use Rattle.def_matching.specs.Matching.{WeightedGraph, IsGraph, edge_at}
 use Rattle.def_forest.specs.Forests.{Forest, splits, IsTight, bool_number, walk, ring_sum}
@@ -70,30 +70,25 @@ module _ {g : Darts} (are : AreDarts g) (f : Forest) where
       joint : (k : ℕ) → IsJoint g f (part b k)
       joint k = search rules
 
-      start_low : (k : ℕ) → start b k < g.n
-      start_low k = are.near_low (f.nest.joint (part b k)) (joint k).tight.low
-
       starts_alike : (k : ℕ) → AreAlike (potential f (start b 0)) (potential f (start b k))
       starts_alike zero = alike_self (potential f (start b 0))
       starts_alike (suc k) = alike_on (starts_alike k) (alike_on (tight_alike (joint k).tight)
-          (more (suc k) (far g _) (start b (suc k)) (far_low g are _ (joint k).tight.low) (start_low (suc k))
-          (joint k).ends (joint (suc k)).begins))
+          (more (suc k) (far g _) (start b (suc k)) (far_low g are _ (joint k).tight.low)
+          (are.near_low _ (joint (suc k)).tight.low) (joint k).ends (joint (suc k)).begins))
 
       to_start : (u : ℕ) → u < g.n → f.holds b u ≡ true → AreAlike (potential f u) (potential f (start b 0))
       to_start u lu hu =
           let w = ring_found f.nest.after (λ p. bool_number (f.holds p u)) (f.nest.head b) (f.nest.parts b)
           (rw (← ring.shared u lu, hu) (omega arith)) in
-          alike_on (search (rules, start_low, joint)) (alike_back (starts_alike w.0))
-
-      ring_alike : Within b
-      ring_alike u v lu lv hu hv = alike_on (to_start u lu hu) (alike_back (to_start v lv hv))
+          alike_on (search (rules, are.near_low, joint)) (alike_back (starts_alike w.0))
 
     within : (fuel b : ℕ) → f.nest.rank b < fuel → Within b
     within zero b l u v lu lv hu hv = absurd (omega arith)
     within (suc fuel) b l u v lu lv hu hv = elim (cases_lt b g.n) [
       | inl low ↦ search (rules, eqb-true b u, eqb-true b v, alike_self)
       | inr high ↦ (let ring = nested.rings b high (λ none. true_false hu (nested.empty b u high lu none)) in
-          ring_alike ring (λ k. within fuel (part b k) (omega (arith, ring.lower k))) u v lu lv hu hv)
+          let to = to_start ring (λ k. within fuel (part b k) (omega (arith, ring.lower k))) in
+          alike_on (to u lu hu) (alike_back (to v lv hv)))
     ]
 
   module _ {root : Option ℕ} (valid : IsValid g f root) where
@@ -166,16 +161,11 @@ listed_off next from (suc many) x off = search (rules, listed_off next from many
 -- A walk that is closed stays among its places.
 pub listed_closed : (next : ℕ → ℕ) {from : ℕ} (many : ℕ) → 1 ≤ many → walk next from many ≡ from → (k : ℕ)
     → listed next from many (walk next from k) ≡ true
-listed_closed next {from} many some closed k = let w = at k in
-    rw w.2 at (listed_at next from many w.0 w.1)
-  where
-    at : (k : ℕ) → (j : ℕ) × (j < many) × (walk next from j ≡ walk next from k)
-    at zero = (0, omega arith, refl)
-    at (suc k) = let w = at k in elim (cases_lt (suc w.0) many) [
-      | inl l ↦ (suc w.0, l, ap next w.2)
-      | inr h ↦ (let e : many ≡ suc w.0 = omega arith in
-          (0, omega arith, sym closed ∙ (ap (walk next from) e ∙ ap next w.2)))
-    ]
+listed_closed next zero some closed k = absurd (omega arith)
+listed_closed next (suc m) some closed zero = listed_at next _ (suc m) 0 some
+listed_closed next {from} (suc m) some closed (suc k) =
+    let w = listed_place next from (suc m) _ (listed_closed next (suc m) some closed k) in
+    grind (arith, cases_eq w.0 m, listed_at next from (suc m) (suc w.0), listed_at next from (suc m) 0)
 
 -- A walk past different places counts each once.
 pub listed_sum : (next : ℕ → ℕ) (from many y : ℕ) → ((i j : ℕ) → i < j → j < many → walk next from i ≢ walk next from j)
@@ -230,41 +220,28 @@ pub record IsCircle (next : ℕ → ℕ) (front many : ℕ) (inside : ℕ → Bo
   pub marked : (k : ℕ) → inside (walk next front k) ≡ true
   pub all : (x : ℕ) → inside x ≡ true → (k : ℕ) × (k < many) × (walk next front k ≡ x)
 
-module _ (next : ℕ → ℕ) (front many : ℕ) (inside : ℕ → Bool) (circle : IsCircle next front many inside) where
-  -- After all one begins anew.
-  pub round : (k : ℕ) → walk next front (many + k) ≡ walk next front k
-  round k = walk_sum next front many k ∙ ap (λ x. walk next x k) circle.closed
+-- A circle may begin one place later, and so at each of its places.
+circle_on : (next : ℕ → ℕ) (front many : ℕ) (inside : ℕ → Bool) → IsCircle next front many inside
+    → IsCircle next (next front) many inside
+circle_on next front zero inside circle = absurd (omega (arith, circle.some))
+circle_on next front (suc m) inside circle = record {
+  some = circle.some;
+  closed = sym (walk_front next front (suc m)) ∙ ap next circle.closed;
+  distinct = λ i j l h e. (let here = walk_front next front i in let there = walk_front next front j in
+      grind (arith, cases_eq j m, circle.closed, circle.distinct (suc i) (suc j), circle.distinct 0 (suc i)));
+  marked = λ k. ap inside (sym (walk_front next front k)) ∙ circle.marked (suc k);
+  all = λ x on. found (circle.all x on);
+}
+  where
+    found : {x : ℕ} → (k : ℕ) × (k < suc m) × (walk next front k ≡ x)
+        → (k : ℕ) × (k < suc m) × (walk next (next front) k ≡ x)
+    found (zero, l, is) = (m, omega arith, sym (walk_front next front m) ∙ circle.closed ∙ is)
+    found (suc k, l, is) = (k, omega arith, sym (walk_front next front k) ∙ is)
 
-  -- The places one step after another from a place on.
-  shifted : (s k : ℕ) → walk next (walk next front s) k ≡ walk next front (s + k)
-  shifted s k = sym (walk_sum next front s k)
-
-  back : (s k : ℕ) → many ≤ s + k → walk next front (s + k) ≡ walk next front (s + k - many)
-  back s k le = (let e : s + k ≡ many + (s + k - many) = omega arith in ap (walk next front) e ∙ round (s + k - many))
-
-  differ : (s i j : ℕ) → s < many → i < j → j < many → walk next front (s + i) ≢ walk next front (s + j)
-  differ s i j ls lij lj = grind (arith, circle.distinct, back s i, back s j)
-
-  pub circle_from : (x : ℕ) → inside x ≡ true → IsCircle next x many inside
-  circle_from x on = by_place (circle.all x on)
-    where
-      at_place : (s : ℕ) → s < many → IsCircle next (walk next front s) many inside
-      at_place s ls = record {
-        some = circle.some;
-        closed = search (rules, shifted);
-        distinct = λ i j lij lj e. differ s i j ls lij lj (sym (shifted s i) ∙ (e ∙ shifted s j));
-        marked = λ k. ap inside (shifted s k) ∙ circle.marked (s + k);
-        all = λ y m. found y (circle.all y m);
-      }
-        where
-          found : (y : ℕ) → (k : ℕ) × (k < many) × (walk next front k ≡ y) → (k : ℕ) × (k < many)
-              × (walk next (walk next front s) k ≡ y)
-          found y w = elim (cases_lt w.0 s) [
-            | inl l ↦ (let e : s + (w.0 + many - s) ≡ many + w.0 = omega arith in
-                (w.0 + many - s, omega arith, shifted s (w.0 + many - s) ∙ rw e (round w.0 ∙ w.2)))
-            | inr h ↦ (let e : s + (w.0 - s) ≡ w.0 = omega arith in
-                (w.0 - s, omega arith, shifted s (w.0 - s) ∙ rw e w.2))
-          ]
-
-      by_place : (k : ℕ) × (k < many) × (walk next front k ≡ x) → IsCircle next x many inside
-      by_place w = subst (λ y. IsCircle next y many inside) w.2 (at_place w.0 w.1)
+pub circle_from : (next : ℕ → ℕ) (front many : ℕ) (inside : ℕ → Bool) → IsCircle next front many inside → (x : ℕ)
+    → inside x ≡ true → IsCircle next x many inside
+circle_from next front many inside circle x on = let w = circle.all x on in rw w.2 at (at w.0)
+  where
+    at : (k : ℕ) → IsCircle next (walk next front k) many inside
+    at zero = circle
+    at (suc k) = circle_on next _ many inside (at k)

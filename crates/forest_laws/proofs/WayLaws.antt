@@ -3,10 +3,10 @@ use Rattle.std.proofs.Common.{rules, ◌≡◌, ◌≢◌, ℕ, Option, Some, No
 use Rattle.std.proofs.lemmas.Bool.{cases_eq}
 use Rattle.def_forest.specs.{Darts.Darts, Darts.AreDarts, Darts.far, Forests.Forest, Forests.set_at, Steps.with_mates}
 use Rattle.def_forest.specs.{Steps.IsAugmented, Valid.IsMate, Valid.IsTree, Valid.IsInner, Valid.IsValid}
-use Rattle.def_forest.specs.{declared.kinds.Label.TheVariants.Inner, declared.kinds.Label.TheVariants.Outside}
+use Rattle.def_forest.specs.{declared.kinds.Label.TheVariants.Inner}
 use Rattle.def_forest.specs.{Ways.Reaches, Ways.IsHalf, Ways.IsAlmost}
 use Rattle.forest_laws.proofs.Grows.{some_is, set_here, set_there, far_twin, tight_twin, outer_mate, inner_named}
-use Rattle.forest_laws.proofs.Grows.{outer_named, same_outermost, same_nested, same_feasible}
+use Rattle.forest_laws.proofs.Grows.{outer_named, same_nested, same_feasible}
 
 -- An option with something in it is not empty.
 pub some_none : (o : Option ℕ) (d : ℕ) → o ≡ Some d → o ≢ None
@@ -28,24 +28,14 @@ module _ {g : Darts} (are : AreDarts g) {f : Forest} {r : ℕ} (valid : IsValid 
         reached = at_there;
         above = inl reach.off;
         kept = λ b named low. elsewhere b (λ e. named (ap f.label e ∙ reach.off));
-        each = λ b d ne mate. (grind (
-          arith,
-          at_there,
-          elsewhere b,
-          elsewhere (f.out (far g d)),
-          valid.matched b d,
-          free,
-        ));
+        each = λ b d ne mate. grind (arith, elsewhere b, elsewhere (f.out (far g d)), valid.matched b d);
         more = λ b mate. grind arith;
         begun = λ off. cc at_there;
       }
 
   module _ {mate : ℕ → Option ℕ} {a e : ℕ} (almost : IsAlmost g f tree.depth start mate a e) where
-    named_a : f.label a ≢ Outside
-    named_a = outer_named almost.outer
-
     own : mate a ≡ f.mate a
-    own = almost.kept a named_a (omega arith)
+    own = almost.kept a (outer_named almost.outer) (omega arith)
 
     -- The blossom a matched too.
     abbrev mates : ℕ → Option ℕ
@@ -60,7 +50,7 @@ module _ {g : Darts} (are : AreDarts g) {f : Forest} {r : ℕ} (valid : IsValid 
     -- It ends at a blossom that is not matched: the forest is valid then, and no tree stands.
     pub end_valid : f.mate a ≡ None → IsValid g (with_mates f (set_at mate a (Some e))) None
     end_valid free = record {
-      outermost = same_outermost valid.outermost (λ b named. absurd (named refl));
+      outermost = search rules;
       nested = same_nested valid.nested;
       feasible = same_feasible valid.feasible;
       matched = λ b d is. (grind (arith, almost.each b d, almost.reached, elsewhere b, here, own, are.twin_twin e));
@@ -92,11 +82,8 @@ module _ {g : Darts} (are : AreDarts g) {f : Forest} {r : ℕ} (valid : IsValid 
       abbrev up : ℕ
       up = f.link inn
 
-      abbrev next : ℕ
-      next = f.out (far g (f.link inn))
-
       abbrev turned : ℕ → Option ℕ
-      turned = set_at (set_at mate a (Some e)) (f.out (far g old)) (Some (f.link (f.out (far g old))))
+      turned = set_at mates inn (Some up)
 
       at_inn : turned inn ≡ Some up
       at_inn = set_here mates inn (Some up)
@@ -115,18 +102,13 @@ module _ {g : Darts} (are : AreDarts g) {f : Forest} {r : ℕ} (valid : IsValid 
       -- What leads to a blossom that is turned is turned with it: only the old partner is matched to what it was.
       by_old : {b x : ℕ} → b ≢ inn → b ≢ a → IsHalf g f mate a e b x → turned (f.out (far g x)) ≡ Some (g.twin x)
       by_old {b} {x} ni na half = elim half.back [
-        | inl back ↦ elim (place (f.out (far g x))) [
-          | is_inn at now ↦ (let kept = almost.kept inn (inner_named inn_inner) (omega (arith, inn_depth)) in
-              absurd (na (cc (pair.here, pair.back, are.twin_twin x, are.twin_twin old))))
-          | is_a at now ↦ absurd (ni (cc (own, was, are.twin_twin x)))
-          | is_other _ _ same ↦ same ∙ back
-        ]
-        | inr (at, inl twin) ↦ ap turned at ∙ at_a ∙ ap Some (sym (ap g.twin twin ∙ are.twin_twin e))
-        | inr (at, inr is) ↦ absurd (ni (cc (was, are.twin_twin x)))
+        | inl back ↦ (let kept = almost.kept inn (inner_named inn_inner) (omega (arith, inn_depth)) in
+            grind (arith, place (f.out (far g x)), own, was, pair, are.twin_twin x, are.twin_twin old))
+        | inr (at, other) ↦ grind (arith, at_a, was, are.twin_twin x, are.twin_twin e)
       ]
 
       -- It goes on past a blossom that is matched.
-      pub turn : IsAlmost g f tree.depth start turned next (g.twin up)
+      pub turn : IsAlmost g f tree.depth start turned (f.out (far g up)) (g.twin up)
       turn =
           let reached = ap f.out (far_twin are up) ∙ inn_is.here in
           record {
@@ -135,18 +117,12 @@ module _ {g : Darts} (are : AreDarts g) {f : Forest} {r : ℕ} (valid : IsValid 
             here = refl;
             reached = ap turned reached ∙ at_inn ∙ ap Some (sym (are.twin_twin up));
             above = inr (rw reached inn_is.nearer);
-            kept = λ b named low. (let there = place b in grind (
-              arith,
-              almost.kept b named,
-              inn_depth,
-              inn_is.nearer,
-              inn_depth,
-            ));
+            kept = λ b named low. grind (arith, place b, almost.kept b named, inn_depth, inn_is.nearer);
             each = λ b d ne is. elim (place b) [
               | is_inn at now ↦ rw (some_is d up (sym is ∙ now)) (grind (arith, inn_is, are.twin_twin up))
               | is_a at now ↦ search (rules, inn_inner, inn_depth)
               | is_other ni na same ↦ (let half = almost.each b d na (sym same ∙ is) in
-                  record { tight = half.tight; here = half.here; other = half.other; back = inl (by_old ni na half) })
+                  search (rules, by_old ni na half))
             ];
             more = λ b is. grind (arith, almost.more b);
             begun = λ off. grind (arith, almost.begun);
