@@ -1,21 +1,21 @@
 -- Soundness: the list of an accepted certificate is least.
 use Rattle.std.proofs.Common.{rules, ◌≡◌, ℕ, zero, suc, ◌-◌, ◌/◌, ◌<◌, ◌≤◌, true, false, List, [], ◌∷◌, length, ℤ, pos}
 use Rattle.std.proofs.Common.{◌-ℤ◌, ◌≤ℤ◌, unsigned_abs, ◌∙◌, ap, inl, inr, arith, ◌+◌, ◌*◌, ◌%◌, Bool, ◌==◌, take}
-use Rattle.std.proofs.Common.{drop, Option, ◌+ℤ◌, refl, add-mul, one-mul, zero-mul, zero-add, add-zero}
+use Rattle.std.proofs.Common.{drop, ◌+ℤ◌, refl, add-mul, one-mul, zero-mul, zero-add, add-zero}
 use Rattle.{std.proofs.lemmas.Bool.cases_lt, sum_laws.proofs.Sums.integers, sum_laws.proofs.Sums.count_below_same}
 use Rattle.def_flow.specs.Admissible.{IsAdmissible, IsLeast, arc_deviation, deviation, entries}
 use Rattle.def_flow.specs.Units.{arcwise, down, low, cap, units_from, units, states_at, active, rim_active, cost_on}
-use Rattle.def_flow.specs.{Network.Network, Network.IsWithinBounds, Network.arc_at, Network.EndsBelow}
+use Rattle.def_flow.specs.{Network.Network, Network.IsWithinBounds, Network.arc_at}
 use Rattle.def_flow.specs.{declared.net.Arc.Arc, MatchingGraph.matching_graph, Accepted.Certificate}
 use Rattle.def_flow.specs.{Accepted.IsAccepted, Gadget.IsStepUp, Gadget.IsInBox, Gadget.lows, Gadget.caps}
-use Rattle.def_flow.specs.{declared.net.End.End, declared.units.ArcUnit.ArcUnit}
+use Rattle.def_flow.specs.{declared.units.ArcUnit.ArcUnit}
 use Rattle.network_laws.proofs.Part.{same_sides, lift_law, arc_convex}
 use Rattle.gadget_laws.specs.{Box.IsRaised, Box.ups, Marks.trues, Told.marks_from, Told.states_told}
 use Rattle.gadget_laws.specs.{Told.steps_told, Told.lengths_on, Told.lengths_told}
 use Rattle.gadget_laws.proofs.{Box.own_box, Box.arcwise_length, Box.box_length, Box.down_fits, Box.weighted_ends}
 use Rattle.gadget_laws.proofs.{Box.units_length, Box.box_active, Box.box_sides, Box.told_active, Box.cost_split}
 use Rattle.gadget_laws.proofs.{Box.first_length, Box.side_list, Box.balanced_list, Box.deviations, Box.deviation_list}
-use Rattle.gadget_laws.proofs.{Box.graph_law, Box.box_deviation, Box.matching_law, Box.units_at, Units.ends_active}
+use Rattle.gadget_laws.proofs.{Box.graph_law, Box.box_deviation, Box.matching_law, Box.units_at}
 use Rattle.gadget_laws.proofs.{Units.UnitsAt, Perfect.told_length, Perfect.told_fills, Perfect.told_cost}
 use Rattle.def_matching.specs.Matching.{IsPerfect, matching_cost}
 use Rattle.{std.specs.Prelude.slice_index, qm_dual.proofs.Weak.weak_duality}
@@ -132,12 +132,8 @@ increments net step a x k t =
     let up : here +ℤ pos step ≡ pos (low step a x + (k + 1) * step) =
     omega (integers, add-mul k 1 step, one-mul step) in
     let less : there -ℤ pos step ≡ pos (low step a x + (k + t) * step) = omega (integers, add-mul k t step) in
-    omega (
-      arith,
-      arc_convex net a here there (pos step) (inl (omega integers, omega (integers))),
-      ap (arc_deviation net a) up,
-      ap (arc_deviation net a) less,
-    )
+    let convex = arc_convex net a here there (pos step) (inl (omega integers, omega integers)) in
+    omega (arith, ap (arc_deviation net a) up, ap (arc_deviation net a) less)
 
 -- Any units of an arc that are on cost no less than the first ones.
 any_cost : (net : Network) (step : ℕ) (a : Arc) (x k n : ℕ) (os : List Bool) → n ≤ length os → pos (at_step net step a x
@@ -148,17 +144,12 @@ any_cost net step a x k (suc n) (true ∷ os) l =
     omega (integers, ap (at_step net step a x) past, any_cost net step a x (k + 1) n os (omega arith))
 any_cost net step a x k (suc n) (false ∷ os) l =
     let none : k + (0 + trues (take n os)) ≡ k + trues (take n os) = omega arith in
-    omega (
-      integers,
-      ap (at_step net step a x) none,
-      increments net step a x k (trues (take n os)),
-      any_cost net step a x (k + 1) n os (omega arith),
-    )
+    let same = ap (at_step net step a x) none in let rest = any_cost net step a x (k + 1) n os (omega arith) in
+    omega (integers, increments net step a x k (trues (take n os)))
 any_cost net step a x k _ _ l = absurd (omega arith)
 
 trues_take : (n : ℕ) (ms : List Bool) → trues (take n ms) ≤ n
-trues_take (suc n) (true ∷ ms) = omega (arith, trues_take n ms)
-trues_take (suc n) (false ∷ ms) = omega (arith, trues_take n ms)
+trues_take (suc n) (m ∷ ms) = grind (arith, trues_take n ms)
 trues_take _ _ = omega arith
 
 -- The list that states tell is in the box.
@@ -175,25 +166,17 @@ told_dear net step (a ∷ arcs) (x ∷ xs) ons m =
     let n = cap step a x in
     let ls = first_length net _ a _ x xs _ m in
     let begin : low step a x + 0 * step ≡ low step a x = omega (arith, zero-mul step) in
-    omega (
-      integers,
-      ap (λ k. arc_deviation net a (pos k)) begin,
-      ap (at_step net step a x) (zero-add (trues (take n ons))),
-      cost_split _ (units net step arcs xs) ons (units_length net step a (low step a x) 0 n) ls.0,
-      any_cost net step a x 0 n ons ls.0,
-      told_dear net step arcs xs (drop n ons) ls.1,
-    )
+    let first = ap (λ k. arc_deviation net a (pos k)) begin in
+    let any = ap (at_step net step a x) (zero-add (trues (take n ons))) in
+    let split = cost_split _ (units net step arcs xs) ons (units_length net step a (low step a x) 0 n) ls.0 in
+    omega (integers, any_cost net step a x 0 n ons ls.0, told_dear net step arcs xs (drop n ons) ls.1)
 told_dear net step _ _ ons m = omega integers
 
 -- No end is at a node past the last.
-pub ends_past : (nodes v : ℕ) (on : Bool) (left : End) (right : Option End) → nodes ≤ v → EndsBelow nodes left right
-    → ends_active v on left right ≡ 0
-ends_past nodes v on left right le at = grind (arith)
-
 pub active_past : (nodes v : ℕ) (us : List ArcUnit) (ons : List Bool) → nodes ≤ v → UnitsAt nodes us
     → active v us ons ≡ 0
 active_past nodes v (u ∷ us) (on ∷ ons) le at =
-    omega (arith, ends_past nodes v on u.left u.right le at.0, active_past nodes v us ons le at.1)
+    grind (arith, active_past nodes v us ons le at.1)
 active_past nodes v _ _ le at = refl
 
 -- Each list of the box is as high as the floors.

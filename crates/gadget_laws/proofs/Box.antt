@@ -64,17 +64,14 @@ run_told (suc j) (suc n) os le = search (rules, run_told j n os (omega arith))
 any_active : (net : Network) (step v : ℕ) (a : Arc) (x k n : ℕ) (os : List Bool) → n ≤ length os
     → active v (units_from net step a (low step a x) k n) os + trues (take n os) * arc_active v false a
     ≡ trues (take n os) * arc_active v true a + n * arc_active v false a
-any_active net step v a x k (suc n) (true ∷ os) l =
-    omega (arith, add-mul, any_active net step v a x (k + 1) n os (omega arith))
-any_active net step v a x k (suc n) (false ∷ os) l = omega (arith, any_active net step v a x (k + 1) n os (omega arith))
+any_active net step v a x k (suc n) (o ∷ os) l = search (rules, any_active net step v a x (k + 1) n os (omega arith))
 any_active net step v a x k _ _ l = omega arith
 
 -- Units in a row take their states in a row.
 active_split : (v : ℕ) (us vs : List ArcUnit) (ons : List Bool) {n : ℕ} → length us ≡ n → n ≤ length ons
     → active v (us ++ vs) ons ≡ active v us ons + active v vs (drop n ons)
 active_split v [] vs ons {n = zero} l le = omega arith
-active_split v (u ∷ us) vs (on ∷ ons) {n = suc n} l le =
-    omega (arith, active_split v us vs ons {n = n} (omega arith) (omega arith))
+active_split v (u ∷ us) vs (on ∷ ons) {n = suc n} l le = grind (arith, active_split v us vs ons {n = n})
 active_split v _ vs _ l le = absurd (omega arith)
 
 pub cost_split : (us vs : List ArcUnit) (ons : List Bool) {n : ℕ} → length us ≡ n → n ≤ length ons
@@ -104,12 +101,8 @@ pub told_active : (net : Network) (step v : ℕ) (arcs : List Arc) (xs : List �
 told_active net step v (a ∷ arcs) (x ∷ xs) ons m =
     let n = cap step a x in
     let ls = first_length net _ a _ x xs _ m in
-    omega (
-      arith,
-      active_split v _ (units net step arcs xs) ons (units_length net step a (low step a x) 0 n) ls.0,
-      any_active net step v a x 0 n ons ls.0,
-      told_active net step v arcs xs (drop n ons) ls.1,
-    )
+    let split = active_split v _ (units net step arcs xs) ons (units_length net step a (low step a x) 0 n) ls.0 in
+    omega (arith, any_active net step v a x 0 n ons ls.0, told_active net step v arcs xs (drop n ons) ls.1)
 told_active net step v _ _ ons m = refl
 
 -- The states of a list of the box tell its steps.
@@ -125,14 +118,11 @@ pub box_active : (net : Network) (step v : ℕ) (arcs : List Arc) (xs js ys : Li
 box_active net step v arcs xs js ys box = search (rules, told_states, told_active, states_count)
 
 -- A list of the box has the ends of its lows, and a step's worth for each unit.
-scaled : (l j s a : ℕ) → (l + j * s) * a ≡ l * a + s * (j * a)
-scaled l j s a = search rules
-
 pub box_ends : (net : Network) (step v : ℕ) (on : Bool) (arcs : List Arc) (xs js ys : List ℕ)
     → IsRaised step arcs xs js ys → weighted_ends v on arcs ys ≡ weighted_ends v on arcs (arcwise (low step) arcs xs)
     + step * weighted_ends v on arcs js
 box_ends net step v on (a ∷ arcs) (x ∷ xs) (j ∷ js) (y ∷ ys) box =
-    search (rules, scaled, box_ends net step v on arcs xs js ys box.2)
+    search (rules, add-mul, box_ends net step v on arcs xs js ys box.2)
 box_ends net step v on _ _ _ _ box = search (rules, mul_comm step 0, zero-mul step)
 
 -- The sum on one side of a node, along the list.
@@ -184,12 +174,10 @@ pub same_active : (net : Network) (step : ℕ) (xs js ys is zs : List ℕ) → 1
 same_active net step xs js ys is zs positive box other by bz v =
     let left = weighted_ends v true net.arcs js + weighted_ends v false net.arcs is in
     let right = weighted_ends v false net.arcs js + weighted_ends v true net.arcs is in
-    let scaled_equal : step * left ≡ step * right = omega (
-      arith,
-      box_sides net step v net.arcs xs js ys is zs box other,
-      balanced_list net.arcs ys (box_length step net.arcs xs js ys box) by v,
-      balanced_list net.arcs zs (box_length step net.arcs xs is zs other) bz v,
-    ) in
+    let one = balanced_list net.arcs ys (box_length step net.arcs xs js ys box) by v in
+    let two = balanced_list net.arcs zs (box_length step net.arcs xs is zs other) bz v in
+    let scaled_equal : step * left ≡ step * right =
+    omega (arith, box_sides net step v net.arcs xs js ys is zs box other) in
     let equal : left ≡ right = sym (mul-div_cancel_left left positive) ∙ (search (rules, mul-div_cancel_left)) in
     omega (arith, box_active net step v net.arcs xs js ys box, box_active net step v net.arcs xs is zs other, equal)
 
@@ -272,12 +260,10 @@ graph_law net step xs bounds = graph_lawful _ _ _ _ (units_at _ _ xs bounds)
 pub box_deviation : (net : Network) (step : ℕ) (xs js ys : List ℕ) → length xs ≡ length net.arcs
     → IsRaised step net.arcs xs js ys → cost_on (units net step net.arcs xs) (states step net.arcs xs js)
     ≡ pos (deviation net (entries ys)) -ℤ pos (deviation net (entries (lows net step xs)))
-box_deviation net step xs js ys l box = omega (
-  integers,
-  box_cost net step net.arcs xs js ys box,
-  deviation_list net net.arcs ys (box_length step net.arcs xs js ys box),
-  deviation_list net net.arcs (lows net step xs) (arcwise_length (low step) net.arcs xs l),
-)
+box_deviation net step xs js ys l box =
+    let own = deviation_list net net.arcs ys (box_length step net.arcs xs js ys box) in
+    let least = deviation_list net net.arcs (lows net step xs) (arcwise_length (low step) net.arcs xs l) in
+    omega (integers, box_cost net step net.arcs xs js ys box)
 
 -- The matching law.
 pub matching_law : (net : Network) (step : ℕ) (xs js ys : List ℕ) → IsWithinBounds net → 1 ≤ step
@@ -306,10 +292,8 @@ deviation_change net a l d small light =
     let near : ℕ = unsigned_abs (pos net.q *ℤ pos l -ℤ pos (net.p * a.old)) in
     let more : far ≤ near + net.q * d = omega (integers, mul-add net.q l d) in
     let less : near ≤ far + net.q * d = omega (integers, mul-add net.q l d) in
-    let up : a.weight * far ≤ a.weight * (near + net.q * d) = mul-le-mul_left a.weight more in
-    let down : a.weight * near ≤ a.weight * (far + net.q * d) = mul-le-mul_left a.weight less in
-    let copies_at : a.weight * (net.q * d) ≤ 1000 * (1000 * d) = mul-le-mul light (mul-le-mul small (omega arith)) in
-    omega (integers, up, down, mul-add a.weight near (net.q * d), mul-add a.weight far (net.q * d), copies_at)
+    let most : a.weight * (net.q * d) ≤ 1000 * (1000 * d) = mul-le-mul light (mul-le-mul small (omega arith)) in
+    omega (integers, most, mul-le-mul_left a.weight more, mul-le-mul_left a.weight less)
 
 -- The cost law.
 pub costs : (net : Network) (step : ℕ) (xs : List ℕ) → IsWithinBounds net → (k : ℕ)

@@ -1,6 +1,6 @@
 -- The edges of the matching graph: what holds of its vertices and of the units' costs, holds of their ends and costs.
 use Rattle.std.proofs.Common.{rules, ◌≡◌, ◌≢◌, ℕ, zero, suc, ◌+◌, ◌<◌, ◌≤◌, Bool, true, false, cond, List, [], ◌∷◌}
-use Rattle.std.proofs.Common.{◌++◌, length, Option, Some, None, ℤ, pos, refl, inl, inr, ap, arith}
+use Rattle.std.proofs.Common.{◌++◌, length, Option, Some, None, ℤ, pos, refl, arith}
 use Rattle.std.proofs.{lemmas.Bool.cases_eq, lemmas.List.Elements.All-from_recursion}
 use Rattle.def_math.specs.Counts.{count, count_below}
 use Rattle.def_matching.specs.{Matching.IsGraph, declared.weighted.WEdge.WEdge}
@@ -26,13 +26,11 @@ AreZero w es = AreEdges (λ v. w v ≡ pos 0) (λ c. Unit {0}) es
 
 -- Of edges without weight nothing is picked, and for free ones nothing is paid.
 pub picked_zero : (w : ℕ → ℤ) (ms : List Bool) (es : List WEdge) → AreZero w es → picked (at_ends w) ms es ≡ pos 0
-picked_zero w (true ∷ ms) (e ∷ es) z = omega (integers, z.0.0, z.0.1, picked_zero w ms es z.1)
-picked_zero w (false ∷ ms) (e ∷ es) z = omega (integers, picked_zero w ms es z.1)
+picked_zero w (m ∷ ms) (e ∷ es) z = search (rules, integers, picked_zero w ms es z.1)
 picked_zero w _ _ z = refl
 
 pub picked_free : (ms : List Bool) (es : List WEdge) → AreFree es → picked (λ e. e.cost) ms es ≡ pos 0
-picked_free (true ∷ ms) (e ∷ es) free = omega (integers, free.0.3, picked_free ms es free.1)
-picked_free (false ∷ ms) (e ∷ es) free = omega (integers, picked_free ms es free.1)
+picked_free (m ∷ ms) (e ∷ es) free = search (rules, integers, picked_free ms es free.1)
 picked_free _ _ free = refl
 
 -- What holds along two lists holds along both in a row.
@@ -45,10 +43,7 @@ each_append P (x ∷ xs) ys a b = (a.0, each_append P xs ys a.1 b)
 pub copies_below : (copies_at : ℕ → ℕ) (v nodes : ℕ) → v < nodes → count_below copies_at v + copies_at v
     ≤ count_below copies_at nodes
 copies_below copies_at v zero l = absurd (omega arith)
-copies_below copies_at v (suc n) l = elim (cases_eq v n) [
-  | inl e ↦ omega (arith, ap (λ u. count_below copies_at u + copies_at u) e)
-  | inr ne ↦ omega (arith, copies_below copies_at v n (omega arith))
-]
+copies_below copies_at v (suc n) l = grind (arith, cases_eq v n, copies_below copies_at v n)
 
 -- A unit has a vertex of its own.
 pub size_low : (left : End) (right : Option End) → 1 ≤ size_by left right

@@ -63,13 +63,8 @@ module _ (n nodes : ℕ) (copies_at : ℕ → ℕ) (m : ℕ) (within : m ≤ n) 
       → (size_by left right ≡ 2 → right ≢ None
       → picked (at_ends (only (b + 1))) ms (links_by copies_at b c left right) ≡ pos 1) → IsTold copies_at ms left right
   unit_told b c left None ms at le one two =
-      let l = left_marks copies_at ms left in
-      let i = inner_mark copies_at ms left None in
       let mate = weigh b b c _ None ms 1 0 at le (only_here b) refl (inner_one b).0 one in search rules
   unit_told b c left (Some right) ms at le one two =
-      let l = left_marks copies_at ms left in
-      let i = inner_mark copies_at ms left (Some right) in
-      let on = state_told copies_at ms left in
       elim (cases_Bool (are_alike left right)) [
         | inl e ↦
             let mate = weigh b b c _ (Some right) ms 1 0 at le (only_here b)
@@ -169,38 +164,38 @@ module _ (nodes : ℕ) (copies_at : ℕ → ℕ) (v : ℕ) (w : ℕ → ℤ) (co
   hit u d e = w u +ℤ pos (cond (e.node == v) 1 0)
 
   -- The copies of node v that a unit takes are its active ends there.
+  right_copies : (b : ℕ) (c : ℤ) (left : End) (right : Option End) (ms : List Bool) → w b ≡ pos 0 → w (b + 1) ≡ pos 0
+      → IsTold copies_at ms left right → pos (right_marks copies_at ms left right) *ℤ right_worth hit b c left right
+      ≡ pos (count (λ e. cond ((e.node == v) && is_active (state_told copies_at ms left) e) 1 0) (option_to_list right))
+  right_copies b c left None ms one two told = omega integers
+  right_copies b c left (Some right) ms one two told = omega (
+    integers,
+    marked (right_marks copies_at ms left (Some right))
+        (right_worth hit b c left (Some right)) (right.node == v) (is_active (state_told copies_at ms left) right)
+        (omega (arith, told.second)) (search rules),
+  )
+
   unit_copies : (b : ℕ) (c : ℤ) (left : End) (right : Option End) (ms : List Bool) → EndsBelow nodes left right → w b
       ≡ pos 0 → w (b + 1) ≡ pos 0 → IsTold copies_at ms left right → picked (at_ends w) ms
       (links_by copies_at b c left right) ≡ pos (ends_active v (state_told copies_at ms left) left right)
-  unit_copies b c left None ms at one two told = omega (
+  unit_copies b c left right ms at one two told = omega (
     integers,
-    unit_pick (at_ends w) nodes copies_at hit (λ u d e l i li. omega (integers, copy e.node i li)) b c left None ms at,
+    unit_pick (at_ends w) nodes copies_at hit (λ u d e l i li. omega (integers, copy e.node i li)) b c left right ms at,
     marked (left_marks copies_at ms left) (hit b c left) (left.node == v)
         (is_active (state_told copies_at ms left) left) told.first (omega (integers, one)),
-    inner_none (inner_mark copies_at ms left None) (w b +ℤ w (b + 1)) (omega (integers, one, two)),
-  )
-  unit_copies b c left (Some right) ms at one two told = omega (
-    integers,
-    unit_pick (at_ends w) nodes copies_at hit (λ u d e l i li. omega (integers, copy e.node i li)) b c left
-        (Some right) ms at,
-    marked (left_marks copies_at ms left) (hit b c left) (left.node == v)
-        (is_active (state_told copies_at ms left) left) told.first (omega (integers, one)),
-    marked (right_marks copies_at ms left (Some right)) (right_worth hit b c left (Some right)) (right.node == v)
-        (is_active (state_told copies_at ms left) right) (omega (arith, told.second)) (search rules),
-    inner_none (inner_mark copies_at ms left (Some right)) (w b +ℤ w (b + 1)) (omega (integers, one, two)),
+    right_copies b c left right ms one two told,
+    inner_none (inner_mark copies_at ms left right) (w b +ℤ w (b + 1)) (omega (integers, one, two)),
   )
 
   units_copies : (b : ℕ) (us : List ArcUnit) (ms : List Bool) → UnitsAt nodes us → ((k : ℕ) → b ≤ k → w k ≡ pos 0)
       → AreTold copies_at us ms → picked (at_ends w) ms (units_links copies_at b us)
       ≡ pos (active v us (states_told copies_at us ms))
   units_copies b [] ms at none told = no_pick (at_ends w) ms
-  units_copies b (u ∷ us) ms at none told = omega (
-    integers,
-    pick_units (at_ends w) copies_at b u us ms,
-    unit_copies b u.cost u.left u.right ms at.0 (none b (omega arith)) (none (b + 1) (omega arith)) told.0,
-    units_copies (b + unit_size u) us (drop (width_by copies_at u.left u.right) ms) at.1
-        (λ k l. none k (omega arith)) told.1,
-  )
+  units_copies b (u ∷ us) ms at none told =
+      let first = unit_copies b u.cost u.left u.right ms at.0 (none b (omega arith)) (none _ (omega arith)) told.0 in
+      let rest = units_copies (b + unit_size u) us (drop (width_by copies_at u.left u.right) ms) at.1
+      (λ k l. none k (omega arith)) told.1 in
+      omega (integers, pick_units (at_ends w) copies_at b u us ms)
 
 -- An active end costs c where it is a plus end, and the inner edge where it is not active and a minus end.
 lone_cost : (n : ℕ) (i : Bool) (c : ℤ) (p o : Bool) → n ≡ cond (cond p o (not o)) 1 0 → i ≡ not (cond p o (not o))
@@ -229,12 +224,9 @@ units_cost_told : (nodes : ℕ) (copies_at : ℕ → ℕ) (b : ℕ) (us : List A
     → AreTold copies_at us ms → picked (λ e. e.cost) ms (units_links copies_at b us)
     ≡ cost_on us (states_told copies_at us ms)
 units_cost_told nodes copies_at b [] ms at told = no_pick (λ (e : WEdge). e.cost) ms
-units_cost_told nodes copies_at b (u ∷ us) ms at told = omega (
-  integers,
-  pick_units (λ (e : WEdge). e.cost) copies_at b u us ms,
-  unit_cost_told nodes copies_at b u.cost u.left u.right ms at.0 told.0,
-  units_cost_told nodes copies_at (b + unit_size u) us (drop (width_by copies_at u.left u.right) ms) at.1 told.1,
-)
+units_cost_told nodes copies_at b (u ∷ us) ms at told =
+    let rest = units_cost_told nodes copies_at (b + unit_size u) us (drop (width_by copies_at u.left u.right) ms) in
+    search (rules, integers, pick_units, unit_cost_told, rest)
 
 pub told_length : (copies_at : ℕ → ℕ) (us : List ArcUnit) (ms : List Bool) → length (states_told copies_at us ms)
     ≡ length us

@@ -2,7 +2,7 @@
 -- that waits gets a mate, and so do all fresh vertices.
 use Rattle.std.proofs.Common.{rules, ◌≡◌, ℕ, zero, suc, ◌+◌, ◌<◌, ◌≤◌, Bool, true, false, cond, List, [], ◌∷◌, ◌++◌}
 use Rattle.std.proofs.Common.{length, map, get_or, ℤ, pos, ◌+ℤ◌, refl, ◌∙◌, ap, add-zero, zero-add, arith, ◌-◌, ◌*◌}
-use Rattle.std.proofs.Common.{◌%◌, Option, Some, None, true≢false, ◌&&◌, take, drop, ◌*ℤ◌, inl, inr, length-append}
+use Rattle.std.proofs.Common.{◌%◌, Option, Some, None, ◌&&◌, take, drop, ◌*ℤ◌, inl, inr, length-append}
 use Rattle.def_flow.specs.MatchingGraph.{link, fan, to_copies, rim_links, inner_link, are_alike, links_by, unit_links}
 use Rattle.def_flow.specs.{MatchingGraph.unit_size, MatchingGraph.units_links, declared.net.End.End, Network.EndsBelow}
 use Rattle.gadget_laws.specs.Marks.{choice, places, end_marks, trues, differ, rim_marks}
@@ -37,18 +37,15 @@ pub end_length : (copies_at used : ℕ → ℕ) (some : Bool) (e : End) (b : ℕ
     → length (end_marks copies_at used some e) ≡ length (to_copies copies_at b c e)
 end_length copies_at used some e b c = omega (arith, choice_length, fan_length)
 
--- Of a fan without a mark nothing is picked.
-pick_none : (f : WEdge → ℤ) (i n u : ℕ) (c : ℤ) (a : ℕ) → picked f (choice false i n) (fan u c a n) ≡ pos 0
-pick_none f i zero u c a = refl
-pick_none f zero (suc n) u c a = omega (integers, pick_none f zero n u c (a + 1))
-pick_none f (suc i) (suc n) u c a = omega (integers, pick_none f i n u c (a + 1))
-
--- Of a fan with one mark one edge is picked.
-pick_some : (f : WEdge → ℤ) (i n u : ℕ) (c : ℤ) (a : ℕ) → i < n → picked f (choice true i n) (fan u c a n)
-    ≡ f (link u (a + i) c)
-pick_some f i zero u c a l = absurd (omega arith)
-pick_some f zero (suc n) u c a l = rw (add-zero a) (omega (integers, pick_none f zero n u c (a + 1)))
-pick_some f (suc i) (suc n) u c a l = search (rules, pick_some f i n u c (a + 1) (omega arith))
+-- Of a fan with at most one mark one edge is picked, or none.
+pick_choice : (f : WEdge → ℤ) (some : Bool) (i n u : ℕ) (c : ℤ) (a : ℕ) → (some ≡ true → i < n)
+    → picked f (choice some i n) (fan u c a n) ≡ cond some (f (link u (a + i) c)) (pos 0)
+pick_choice f true i zero u c a low = absurd (omega (arith, low refl))
+pick_choice f false i zero u c a low = refl
+pick_choice f some zero (suc n) u c a low =
+    rw (add-zero a) (omega (integers, pick_choice f false zero n u c (a + 1) (λ e. cc e)))
+pick_choice f some (suc i) (suc n) u c a low =
+    search (rules, pick_choice f some i n u c (a + 1) (λ e. omega (arith, low e)))
 
 -- Of the edges to the copies of an end's node one is picked, or none.
 abbrev pub end_value : (f : WEdge → ℤ) (copies_at used : ℕ → ℕ) (some : Bool) (b : ℕ) (c : ℤ) (e : End) → ℤ
@@ -58,8 +55,7 @@ end_value f copies_at used some b c e =
 pub pick_end : (f : WEdge → ℤ) (copies_at used : ℕ → ℕ) (some : Bool) (e : End) (b : ℕ) (c : ℤ)
     → (some ≡ true → used e.node < copies_at e.node)
     → picked f (end_marks copies_at used some e) (to_copies copies_at b c e) ≡ end_value f copies_at used some b c e
-pick_end f copies_at used true e b c free = pick_some f (used e.node) (copies_at e.node) b _ _ (free refl)
-pick_end f copies_at used false e b c free = pick_none f (used e.node) (copies_at e.node) b _ _
+pick_end f copies_at used some e b c free = pick_choice f some (used e.node) (copies_at e.node) b _ _ free
 
 -- The places rise.
 pub places_rise : (low k end : ℕ) (ms : List Bool) → low ≤ k → k + length ms ≤ end → IsIncreasing low end (places k ms)
@@ -71,14 +67,11 @@ places_rise low k high (false ∷ ms) from le = places_rise low (k + 1) high ms 
 -- The sum along what stands at the places of the marks is what is picked.
 at_places : {X : Type 0} (h : ℕ → X) (d : X) (f : X → ℤ) (k : ℕ) (ms : List Bool) (xs : List X) → length ms ≡ length xs
     → ((j : ℕ) → h (k + j) ≡ get_or xs j d) → total f (map h (places k ms)) ≡ picked f ms xs
-at_places h d f k (true ∷ ms) (x ∷ xs) l same = omega (
-  integers,
-  ap f (rw add-zero at (same 0)),
-  at_places h d f (k + 1) ms xs (omega arith)
-      (λ j. (let e : k + 1 + j ≡ k + suc j = omega arith in ap h e ∙ same (suc j))),
-)
-at_places h d f k (false ∷ ms) (x ∷ xs) l same = at_places h d f (k + 1) ms xs (omega arith)
-    (λ j. (let e : k + 1 + j ≡ k + suc j = omega arith in ap h e ∙ same (suc j))) ∙ omega integers
+at_places h d f k (m ∷ ms) (x ∷ xs) l same =
+    let here = rw add-zero at (same 0) in
+    let rest = at_places h d f (k + 1) ms xs (omega arith)
+    (λ j. (let e : k + 1 + j ≡ k + suc j = omega arith in ap h e ∙ same (suc j))) in
+    grind integers
 at_places h d f k _ _ l same = omega integers
 
 pub chosen_sum : (g : WeightedGraph) (f : WEdge → ℤ) (ms : List Bool) → length ms ≡ length g.edges
@@ -107,27 +100,16 @@ two_more : (w : ℕ → ℤ) (fresh n : ℕ) → span w fresh (pairs (suc (suc n
     ≡ w fresh +ℤ (w (fresh + 1) +ℤ span w (fresh + 2) (pairs (suc n)))
 two_more w fresh n = let more : pairs (suc (suc n)) ≡ suc (suc (pairs (suc n))) = omega arith in search rules
 
-still_even : (a b : Bool) (n : ℕ) → (cond a 1 0 + (cond b 1 0 + n)) % 2 ≡ 0 → (cond (differ a b) 1 0 + n) % 2 ≡ 0
-still_even true true n even = omega arith
-still_even _ _ n even = omega arith
-
 -- What is picked at the rim weighs what waits and what is fresh.
 pub chain_sum : (w : ℕ → ℤ) (before : Option ℕ) (waits : Bool) (fresh : ℕ) (rs : List ℕ) (os : List Bool)
     → length os ≡ length rs → IsThere before waits → (cond waits 1 0 + trues os) % 2 ≡ 0
     → picked (at_ends w) (rim_marks before waits fresh os) (rim_links before fresh rs)
     ≡ waiting w before waits +ℤ (picked w os rs +ℤ span w fresh (pairs (length rs)))
-chain_sum w None waits fresh [] [] l there even = refl
-chain_sum w (Some b) true fresh [] [] l there even = absurd (omega arith)
-chain_sum w (Some b) false fresh [] [] l there even = refl
-chain_sum w None false fresh (r ∷ []) (true ∷ []) l there even = absurd (omega arith)
-chain_sum w None false fresh (r ∷ []) (false ∷ []) l there even = omega integers
-chain_sum w (Some b) true fresh (r ∷ []) (true ∷ []) l there even = omega integers
-chain_sum w (Some b) true fresh (r ∷ []) (false ∷ []) l there even = absurd (omega arith)
-chain_sum w (Some b) false fresh (r ∷ []) (true ∷ []) l there even = absurd (omega arith)
-chain_sum w (Some b) false fresh (r ∷ []) (false ∷ []) l there even = omega integers
+chain_sum w before waits fresh [] [] l there even = grind integers
+chain_sum w before waits fresh (r ∷ []) (o ∷ []) l there even = grind integers
 chain_sum w before waits fresh (r ∷ s ∷ rs) (o ∷ p ∷ os) l there even =
     step before waits o there (chain_sum w (Some (fresh + 1)) (differ waits o) (fresh + 2) (s ∷ rs) (p ∷ os)
-    (omega arith) tt (still_even waits o (trues (p ∷ os)) even))
+    (omega arith) tt (grind arith))
   where
     step : (before : Option ℕ) (waits o : Bool) → IsThere before waits
         → picked (at_ends w) (rim_marks (Some (fresh + 1)) (differ waits o) (fresh + 2) (p ∷ os))
@@ -135,9 +117,8 @@ chain_sum w before waits fresh (r ∷ s ∷ rs) (o ∷ p ∷ os) l there even =
         (picked w (p ∷ os) (s ∷ rs) +ℤ span w (fresh + 2) (pairs (length (s ∷ rs))))
         → picked (at_ends w) (rim_marks before waits fresh (o ∷ p ∷ os)) (rim_links before fresh (r ∷ s ∷ rs)) ≡ waiting
         w before waits +ℤ (picked w (o ∷ p ∷ os) (r ∷ s ∷ rs) +ℤ span w fresh (pairs (length (r ∷ s ∷ rs))))
-    step None true o there more = absurd (true≢false there)
-    step None false true there more = omega (integers, two_more w fresh (length rs), more)
-    step None false false there more = omega (integers, two_more w fresh (length rs), more)
+    step None waits true there more = rw there (omega (integers, two_more w fresh (length rs), rw there at more))
+    step None waits false there more = rw there (omega (integers, two_more w fresh (length rs), rw there at more))
     step (Some b) true true there more = omega (integers, two_more w fresh (length rs), more)
     step (Some b) true false there more = omega (integers, two_more w fresh (length rs), more)
     step (Some b) false true there more = omega (integers, two_more w fresh (length rs), more)
@@ -182,14 +163,9 @@ fan_pick f ms u c a zero s each = omega (integers, no_pick f ms)
 fan_pick f [] u c a (suc n) s each = omega integers
 fan_pick f (m ∷ ms) u c a (suc n) s each =
     let here : f (link u a c) ≡ s = rw add-zero at (each 0 (omega arith)) in
-    grind (
-      integers,
-      here,
-      plus_times 1 (trues (take n ms)) s,
-      plus_times 0 (trues (take n ms)) s,
-      fan_pick f ms u c (a + 1) n s (λ i l. (let e : a + 1 + i ≡ a + suc i = omega arith in
-          rw e (each (suc i) (omega arith)))),
-    )
+    let rest = fan_pick f ms u c (a + 1) n s
+    (λ i l. (let e : a + 1 + i ≡ a + suc i = omega arith in rw e (each (suc i) (omega arith)))) in
+    grind (integers, plus_times 1 (trues (take n ms)) s, plus_times 0 (trues (take n ms)) s)
 
 -- A unit has as many edges as its width says.
 pub links_width : (copies_at : ℕ → ℕ) (b : ℕ) (c : ℤ) (left : End) (right : Option End)

@@ -1,16 +1,16 @@
 -- The matching graph has at most 9/16 of the tangle number of vertices, and at most 9/8 of it of edges.
 use Rattle.std.proofs.Common.{rules, ◌≡◌, ◌≢◌, ℕ, zero, suc, ◌+◌, ◌-◌, ◌*◌, ◌%◌, ◌<◌, ◌≤◌, Bool, true, false, cond}
-use Rattle.std.proofs.Common.{◌&&◌, ◌==◌, List, [], ◌∷◌, length, Option, Some, None, option_to_list, pos, ◌≤ℤ◌, refl}
-use Rattle.std.proofs.Common.{sym, ◌∙◌, inl, inr, add-mul, mul_left_comm, mul-zero, zero-mul, mul-le-mul_left}
+use Rattle.std.proofs.Common.{◌==◌, List, [], ◌∷◌, length, Option, Some, None, option_to_list, pos, ◌≤ℤ◌, refl}
+use Rattle.std.proofs.Common.{sym, ◌∙◌, add-mul, mul-zero, zero-mul, mul-le-mul_left}
 use Rattle.std.proofs.Common.{mul-le-mul_right, length-append, eq-eqb, ne_eqb, arith}
-use Rattle.std.proofs.{lemmas.Bool.cases_eq, lemmas.List.Elements.All-from_recursion}
+use Rattle.std.proofs.{lemmas.List.Elements.All-from_recursion}
 use Rattle.sum_laws.proofs.Sums.{integers, count_append, count_below_sum, count_below_le, count_below_same}
 use Rattle.sum_laws.proofs.Sums.{count_below_one, count_below_none, count_below_times}
-use Rattle.def_flow.specs.Network.{EndsBelow, Network, IsWithinBounds, arc_at, ends, degree, tangle_number}
+use Rattle.def_flow.specs.Network.{Network, IsWithinBounds, arc_at, ends, degree, tangle_number}
 use Rattle.def_flow.specs.{MatchingGraph.matching_graph, Admissible.IsAdmissible, Admissible.entries}
 use Rattle.def_flow.specs.{declared.net.Arc.Arc, declared.net.End.End, declared.units.ArcUnit.ArcUnit}
 use Rattle.def_flow.specs.Units.{arcwise, down, low, cap, units_from, units, states_at, is_active, active, rim_active}
-use Rattle.def_flow.specs.MatchingGraph.{rim_links, rim, size_by, unit_size, units_links, first_fresh, lone_vertex}
+use Rattle.def_flow.specs.MatchingGraph.{rim_links, rim, size_by, unit_size, units_links}
 use Rattle.gadget_laws.proofs.Box.{own_box, arc_active, weighted_ends, box_active, balanced_list, IsFit, arcs_fit}
 use Rattle.{sum_laws.proofs.Tests.once_at_most, def_math.specs.Counts.count, def_math.specs.Counts.count_below}
 use Rattle.{gadget_laws.proofs.Pick.links_width, std.specs.List.AllByRecursion, gadget_laws.specs.Told.width_by}
@@ -20,14 +20,9 @@ abbrev ends_on : ℕ → Bool → List Arc → ℕ
 ends_on v on arcs = count (arc_active v on) arcs
 
 -- All ends at a node are on one side or the other.
-both_sides : (v : ℕ) (es : List End) → count (λ e. cond (e.node == v) 1 0) es ≡ count (λ e. cond
-    ((e.node == v) && is_active true e) 1 0) es + count (λ e. cond ((e.node == v) && is_active false e) 1 0) es
-both_sides v [] = refl
-both_sides v (e ∷ es) = grind (arith, both_sides v es)
-
 degree_sides : (v : ℕ) (arcs : List Arc) → degree arcs v ≡ ends_on v true arcs + ends_on v false arcs
 degree_sides v [] = refl
-degree_sides v (a ∷ arcs) = omega (arith, both_sides v (ends a), degree_sides v arcs)
+degree_sides v (a ∷ arcs) = grind (arith, degree_sides v arcs)
 
 -- Entries of at least 1 weigh at least the number of ends, and nothing where there are none.
 weighted_high : (v : ℕ) (on : Bool) (arcs : List Arc) (xs : List ℕ) → length xs ≡ length arcs
@@ -42,10 +37,7 @@ weighted_high v on _ _ l high = absurd (omega arith)
 -- No node has a single end: the other side would have the sum 0.
 no_single : (net : Network) (xs : List ℕ) → IsWithinBounds net → length xs ≡ length net.arcs
     → IsAdmissible net (entries xs) → (v : ℕ) → degree net.arcs v ≢ 1
-no_single net xs bounds l a v single = elim (cases_eq (ends_on v true net.arcs) 0) [
-  | inl none ↦ omega (arith, single, degree_sides v net.arcs, equal, (side true).1 none, (side false).0)
-  | inr some ↦ search (rules, degree_sides, equal, side)
-]
+no_single net xs bounds l a v single = grind (arith, degree_sides v net.arcs, equal, side true, side false)
   where
     high : (k : ℕ) → k < length xs → pos 1 ≤ℤ entries xs k
     high k lk = (let at : k < length net.arcs = omega (arith, l) in
@@ -72,13 +64,9 @@ downs_ends step v _ _ = omega arith
 
 pub count_low : (net : Network) (step : ℕ) (xs : List ℕ) → length xs ≡ length net.arcs → (v : ℕ)
     → active v (units net step net.arcs xs) (states_at net step xs) ≤ 2 * degree net.arcs v
-count_low net step xs l v = omega (
-  arith,
-  degree_sides v net.arcs,
-  box_active net step v net.arcs xs (arcwise (down step) net.arcs xs) xs (own_box step net.arcs xs l),
-  caps_ends step v net.arcs xs,
-  downs_ends step v net.arcs xs,
-)
+count_low net step xs l v =
+    let own = box_active net step v net.arcs xs (arcwise (down step) net.arcs xs) xs (own_box step net.arcs xs l) in
+    omega (arith, degree_sides, caps_ends, downs_ends)
 
 -- All ends, and what f is along them.
 abbrev along_ends : (ℕ → ℕ) → List Arc → ℕ
@@ -101,15 +89,11 @@ exchange_each {X} G d h f nodes each (x ∷ xs) good = omega (
   exchange_each G d h f nodes each xs good.1,
 )
 
-ends_each : (nodes : ℕ) (left : End) (right : Option End) → EndsBelow nodes left right
-    → AllByRecursion (λ e. e.node < nodes) (left ∷ option_to_list right)
-ends_each nodes left None at = (at, tt)
-ends_each nodes left (Some right) at = (at.0, (at.1, tt))
-
 exchange : (f : ℕ → ℕ) (nodes : ℕ) (arcs : List Arc) → AllByRecursion (IsFit nodes) arcs
     → count_below (λ v. degree arcs v * f v) nodes ≡ along_ends f arcs
-exchange f nodes = exchange_each _ _ _ f _ (λ a fit. exchange_each _ _
-    _ f _ (λ e l. one_node f _ _ l) (ends a) (ends_each _ a.left _ fit.0))
+exchange f nodes = exchange_each (IsFit nodes) _ _ f _ (λ a fit.
+    (let each : AllByRecursion (λ e. e.node < nodes) (ends a) = search rules in
+    exchange_each _ _ _ f _ (λ e l. one_node f _ _ l) (ends a) each))
 
 -- The number of all ends.
 abbrev all_ends : List Arc → ℕ
@@ -127,11 +111,7 @@ tangle_high net at several = omega (
   count_below_times 32 (degree net.arcs) net.nodes,
   degrees_sum net.nodes net.arcs at,
   count_below_le (λ v. 32 * degree net.arcs v) (λ v. 16 * (degree net.arcs v * degree net.arcs v)) net.nodes
-      (λ v l. elim (cases_eq (degree net.arcs v) 0) [
-        | inl none ↦ omega (arith, none)
-        | inr some ↦ (let h : 2 * degree net.arcs v ≤ degree net.arcs v * degree net.arcs v =
-            mul-le-mul_right (degree net.arcs v) (omega (arith, several v)) in omega (arith, h))
-      ]),
+      (λ v l. grind (arith, several v)),
 )
 
 -- Whether a unit has one end, as 1 or 0.
@@ -222,19 +202,15 @@ size_law net step xs bounds l a =
     ) in
     let pairs_low : cond lone 1 0 + 2 * (length (rim first us) - 1) ≤ 2 * count is_lone us =
     search (rules, rim_active_low, rim_count) in
-    let vertices : (matching_graph net step xs).n ≤ first + 16 * all_ends net.arcs = omega (
-      arith,
-      pairs_low,
-      sizes_split us,
-      units_few size_and_rim (λ v. 3 + 1) net step net.arcs xs (λ left right. grind (arith)),
-      along_more 3 (λ v. 1) net.arcs,
-    ) in
+    let sizes = units_few size_and_rim (λ v. 3 + 1) net step net.arcs xs (λ left right. grind (arith)) in
+    let vertices : (matching_graph net step xs).n ≤ first + 16 * all_ends net.arcs =
+    omega (arith, pairs_low, sizes_split, along_more 3 (λ v. 1) net.arcs) in
     let edges : length (matching_graph net step xs).edges ≤ 4 * along_ends copies_at net.arcs + 20 * all_ends net.arcs =
     simp length-append (omega (
       arith,
       widths_split copies_at first us,
-      rim_low (lone_vertex net.nodes copies_at lone us) (first_fresh net.nodes copies_at lone us) (rim first us),
-      rim_count first us,
+      rim_low,
+      rim_count,
       units_few (width_and_rim copies_at) (λ v. 5 + copies_at v) net step net.arcs xs (λ left right. grind (arith)),
       along_more 5 copies_at net.arcs,
     )) in
@@ -244,10 +220,7 @@ size_law net step xs bounds l a =
       count_below_times 32 (λ v. degree net.arcs v * copies_at v) net.nodes,
       count_below_times 4 (λ v. 16 * (degree net.arcs v * degree net.arcs v)) net.nodes,
       count_below_le (λ v. 32 * (degree net.arcs v * copies_at v))
-          (λ v. 4 * (16 * (degree net.arcs v * degree net.arcs v))) net.nodes (λ v lv. omega (
-            arith,
-            mul-le-mul_left (degree net.arcs v) (count_low net step xs l v),
-            mul_left_comm (degree net.arcs v) 2 (degree net.arcs v),
-          )),
+          (λ v. 4 * (16 * (degree net.arcs v * degree net.arcs v))) net.nodes
+          (λ v lv. omega (arith, mul-le-mul_left (degree net.arcs v) (count_low net step xs l v))),
     ) in
     (omega (arith, copies, vertices, tangle), omega (arith, edges, shared, tangle))

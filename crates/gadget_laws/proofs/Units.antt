@@ -1,6 +1,6 @@
 -- What is picked at units: the edges of their own vertices, and copies that they take.
 use Rattle.std.proofs.Common.{rules, ◌≡◌, ℕ, ◌+◌, ◌<◌, ◌≤◌, Bool, true, false, cond, not, ◌&&◌, ◌==◌, [], ◌∷◌, ◌++◌}
-use Rattle.std.proofs.Common.{length, Option, Some, None, option_to_list, ℤ, pos, ◌+ℤ◌, refl, sym, ◌∙◌, eq-eqb, List}
+use Rattle.std.proofs.Common.{length, Option, Some, None, option_to_list, ℤ, pos, ◌+ℤ◌, refl, sym, ◌∙◌, List}
 use Rattle.std.proofs.Common.{ne_eqb, inl, inr, length-append, arith}
 use Rattle.sum_laws.proofs.Sums.{total_below_same, total_below_sum, total_below_one, span_sum, integers}
 use Rattle.def_flow.specs.MatchingGraph.{to_copies, inner_link, are_alike, links_by, size_by, unit_size, units_links}
@@ -29,11 +29,7 @@ held_end nodes copies_at w used some e l =
     let old : ℕ → ℤ = λ v. span w (count_below copies_at v) (used v) in
     let new : ℕ → ℤ = λ v. cond ((e.node == v) && some) (w (count_below copies_at v + used v)) (pos 0) in
     let parts : held nodes copies_at w (take_end used some e) ≡ total_below (λ v. old v +ℤ new v) nodes
-    = total_below_same _ _ nodes (λ v lv. grind (
-      integers,
-      span_sum w (count_below copies_at v) (used v) 1,
-      span_sum w (count_below copies_at v) (used v) 0,
-    )) in
+    = total_below_same _ _ nodes (λ v lv. grind (integers, span_sum w (count_below copies_at v) (used v))) in
     let single : total_below new nodes ≡ new e.node =
     total_below_one new nodes e.node l (λ v lv ne. rw (ne_eqb e.node v (λ q. ne (sym q))) refl) in
     search (rules, total_below_sum)
@@ -41,10 +37,6 @@ held_end nodes copies_at w used some e l =
 -- How many active ends a unit has at a node, by its ends.
 abbrev pub ends_active : ℕ → Bool → End → Option End → ℕ
 ends_active v on left right = count (λ e. cond ((e.node == v) && is_active on e) 1 0) (left ∷ option_to_list right)
-
--- An end that is active finds a free copy of its node.
-end_free : (u k v : ℕ) (a : Bool) → u + cond ((v == v) && a) 1 0 ≤ k → a ≡ true → u < k
-end_free u k v a le on = let h = rw (eq-eqb v v refl, on) at le in omega arith
 
 module _ (f : WEdge → ℤ) (copies_at used : ℕ → ℕ) (b : ℕ) (c : ℤ) (on : Bool) (left : End) where
   -- The copies in use past the first end.
@@ -72,7 +64,8 @@ module _ (f : WEdge → ℤ) (copies_at used : ℕ → ℕ) (b : ℕ) (c : ℤ) 
       omega (integers, first_picked None (not (is_active on left) ∷ []) (inner_link b c left ∷ []) free)
   pick_unit (Some right) free =
       let second = end_marks copies_at next (is_active on right) right in
-      let found = end_free _ _ right.node _ (omega (arith, free right.node)) in
+      let found : is_active on right ≡ true → next right.node < copies_at right.node =
+      λ active. grind (arith, free right.node) in
       elim (cases_Bool (are_alike left right)) [
         | inl e ↦ rw e (omega (
           integers,
@@ -92,21 +85,16 @@ module _ (f : WEdge → ℤ) (copies_at used : ℕ → ℕ) (b : ℕ) (c : ℤ) 
 -- What a unit's vertices p and q weigh, and the copies x and y, by the signs l and r of its ends.
 lone_weight : (a : Bool) (p q x : ℤ) → cond a (p +ℤ x) (pos 0) +ℤ (cond (not a) (p +ℤ q) (pos 0) +ℤ cond a q (pos 0))
     ≡ p +ℤ (q +ℤ cond a x (pos 0))
-lone_weight true p q x = omega integers
-lone_weight false p q x = omega integers
+lone_weight a p q x = search (rules, integers)
 
 pair_weight : (l r o : Bool) (p q x y : ℤ) → cond (cond l r (not r)) (cond (cond l o (not o)) (p +ℤ x) (pos 0) +ℤ
     (cond (cond r o (not o)) (q +ℤ y) (pos 0) +ℤ cond (not (cond l o (not o))) (p +ℤ q) (pos 0)))
     (cond (cond l o (not o)) (p +ℤ x) (pos 0) +ℤ cond (cond r o (not o)) (p +ℤ y) (pos 0))
     ≡ cond (cond l r (not r)) (p +ℤ q) p +ℤ (cond (cond l o (not o)) x (pos 0) +ℤ cond (cond r o (not o)) y (pos 0))
-pair_weight true true true p q x y = omega integers
-pair_weight true true false p q x y = omega integers
-pair_weight true false true p q x y = omega integers
-pair_weight true false false p q x y = omega integers
-pair_weight false true true p q x y = omega integers
-pair_weight false true false p q x y = omega integers
-pair_weight false false true p q x y = omega integers
-pair_weight false false false p q x y = omega integers
+pair_weight true true o p q x y = search (rules, integers)
+pair_weight true false o p q x y = search (rules, integers)
+pair_weight false true o p q x y = search (rules, integers)
+pair_weight false false o p q x y = search (rules, integers)
 
 -- At a unit its own vertices and the copies that it takes get one mate each, but for the one at the rim that waits.
 unit_weight : (w : ℕ → ℤ) (nodes : ℕ) (copies_at used : ℕ → ℕ) (b : ℕ) (c : ℤ) (on : Bool) (left : End)
@@ -143,8 +131,7 @@ unit_weight w nodes copies_at used b c on left (Some right) os rs ends free =
 pub unit_cost : (copies_at used : ℕ → ℕ) (b : ℕ) (c : ℤ) (on : Bool) (left : End) (right : Option End) → ((v : ℕ)
     → used v + ends_active v on left right ≤ copies_at v) → picked (λ e. e.cost) (marks_by copies_at used on left right)
     (links_by copies_at b c left right) ≡ cond on c (pos 0)
-unit_cost copies_at used b c on left None free = pick_unit _ _ _ b c on _ None free ∙ grind integers
-unit_cost copies_at used b c on left (Some right) free = pick_unit _ _ _ b c on _ (Some right) free ∙ grind integers
+unit_cost copies_at used b c on left right free = pick_unit _ _ _ b c on _ right free ∙ grind integers
 
 -- A unit has as many marks as edges.
 pub unit_length : (copies_at used : ℕ → ℕ) (b : ℕ) (c : ℤ) (on : Bool) (left : End) (right : Option End)

@@ -1,6 +1,6 @@
 -- The whole matching of states: each vertex gets one mate, and the cost is that of the units that are on.
 use Rattle.std.proofs.Common.{rules, ◌≡◌, ℕ, zero, suc, ◌+◌, ◌*◌, ◌%◌, ◌<◌, Bool, true, false, cond, ◌==◌, List, ◌∷◌}
-use Rattle.std.proofs.Common.{length, map, Option, ℤ, pos, ◌+ℤ◌, refl, ◌∙◌, zero-add, ◌≢◌, length-append, eq-eqb}
+use Rattle.std.proofs.Common.{length, map, Option, ℤ, pos, ◌+ℤ◌, refl, ◌∙◌, ◌≢◌, length-append, eq-eqb}
 use Rattle.std.proofs.Common.{ne_eqb, mul-zero, mul-add, arith}
 use Rattle.def_math.specs.Sums.{total, total_below, span}
 use Rattle.sum_laws.proofs.Sums.{total_below_none, total_below_one, total_below_span, total_same, integers, count_total}
@@ -122,8 +122,8 @@ module _ {nodes : ℕ} {copies_at : ℕ → ℕ} {lone : Bool} {us : List ArcUni
 -- Where all weigh n, so do the picked ones.
 picked_all : {X : Type 0} (n : ℕ) (ms : List Bool) (xs : List X) → length ms ≡ length xs → picked (λ x. pos n) ms xs
     ≡ pos (n * trues ms)
-picked_all n (true ∷ ms) (x ∷ xs) l = omega (integers, mul-add n 1 (trues ms), picked_all n ms xs (omega arith))
-picked_all n (false ∷ ms) (x ∷ xs) l = rw zero-add (omega (integers, picked_all n ms xs (omega arith)))
+picked_all n (m ∷ ms) (x ∷ xs) l =
+    search (rules, integers, mul-add n 1 (trues ms), picked_all n ms xs (omega arith))
 picked_all n _ _ l = omega (integers, mul-zero n)
 
 -- States that fill the same copies have as many active units at the rim, but for an even number.
