@@ -1,11 +1,9 @@
 -- Counts of active ends, one unit at a time.
-use Rattle.std.proofs.Common.{rules, ◌≡◌, ℕ, zero, suc, ◌+◌, ◌*◌, ◌%◌, ◌<◌, ◌≤◌, ◌==◌, Bool, false, not, ◌&&◌, cond}
-use Rattle.std.proofs.Common.{List, ◌∷◌, length, take, drop, None, pos, refl, arith}
-use Rattle.std.proofs.{lemmas.List.drop_more, lemmas.List.get_or_past}
-use mathlib.Core.Bool.{beq}
+use Rattle.std.proofs.Common.{rules, ◌≡◌, ℕ, zero, suc, ◌+◌, ◌*◌, ◌<◌, ◌≤◌, ◌==◌, Bool, false, ◌&&◌, List, ◌∷◌, length}
+use Rattle.std.proofs.{Common.take, Common.None, Common.pos, Common.arith, lemmas.List.get_or_past}
+use Rattle.std.specs.Prelude.{slice_index, slice_index_or}
 use Rattle.def_flow.specs.{Units.is_active, Units.active_at, Units.active, declared.units.ArcUnit.ArcUnit}
-use Rattle.{std.specs.Prelude.slice_index, std.specs.Prelude.slice_index_or, def_math.specs.Tables.IsRaised}
-use Rattle.{qm_gadget.specs.Layout.IsAtNodes, sum_laws.proofs.Tests.once_at_most}
+use Rattle.{def_math.specs.Tables.IsRaised, qm_gadget.specs.Layout.IsAtNodes, sum_laws.proofs.Tests.once_at_most}
 
 -- Past the last unit stands this one.
 abbrev pub no_unit : ArcUnit
@@ -32,16 +30,6 @@ active_more v (w ∷ us) (o ∷ ons) zero u b l same = omega arith
 active_more v (w ∷ us) (o ∷ ons) (suc k) u b l same = let next : suc k + 1 ≡ suc (k + 1) = omega arith in
     rw next (omega (arith, active_more v us ons k u b (omega arith) (omega arith)))
 active_more v _ _ k u b l same = absurd (omega arith)
-
--- What f is from place k on of two lists, by what stands there.
-pub step_of : {X Y Z : Type 0} (f : List X → List Y → Z) (xs : List X) (ys : List Y) (k : ℕ) (x : X) (y : Y)
-    → k < length xs → length xs ≡ length ys
-    → f (drop k xs) (drop k ys) ≡ f (slice_index_or xs k x ∷ drop (k + 1) xs) (slice_index_or ys k y ∷ drop (k + 1) ys)
-step_of f xs ys k x y l same = rw (drop_more xs k x l, drop_more ys k y (omega (arith, same, l))) refl
-
--- The parity of a count where one more may be added.
-pub differ_parity : (a b : Bool) (r : ℕ) → (cond (not (beq a b)) 1 0 + r) % 2 ≡ (cond a 1 0 + (cond b 1 0 + r)) % 2
-differ_parity a b r = grind (arith)
 
 -- A table with the active ends of a unit added, at each number, also past the nodes.
 pub raised_read : (u : ArcUnit) (on : Bool) (nodes : ℕ) (old new : List ℕ) → length old ≡ nodes → IsAtNodes nodes u

@@ -1,3 +1,4 @@
+use Rattle.std.proofs.Common.{rules}
 use Rattle.{std.proofs.Common.arith, qm_gadget.proofs.OfList.plan_graph, qm_gadget.proofs.OfList.plan_small}
 use Rattle.qm_gadget.proofs.build.graph_over.Goals as goal
 
@@ -5,9 +6,7 @@ pub new-requires : goal.new-requires
 new-requires c = omega (arith, plan_small c.args.boxes.now.ready c.in_ok-plan.ensures c.requires)
 
 pub lay_out-requires : goal.lay_out-requires
-lay_out-requires c = rw (c.in_ok-copies.ensures, c.deref.ensures.value)
-    (plan_small c.args.boxes.now.ready c.in_ok-plan.ensures c.requires)
+lay_out-requires c = grind (arith, plan_small c.args.boxes.now.ready c.in_ok-plan.ensures c.requires)
 
 pub returns : goal.returns
-returns c = rw (← plan_graph c.args.boxes.now.ready c.in_ok-plan.ensures)
-    (rw (← c.in_ok-copies.ensures, ← c.deref.ensures.value) c.lay_out.ensures)
+returns c = search (rules, ← plan_graph c.args.boxes.now.ready c.in_ok-plan.ensures)

@@ -1,4 +1,4 @@
-use Rattle.{std.proofs.Common.◌∙◌, qm_gadget.proofs.OfList.plan_counts, qm_gadget.proofs.OfList.plan_few}
+use Rattle.{std.proofs.Common.rules, qm_gadget.proofs.OfList.plan_counts, qm_gadget.proofs.OfList.plan_few}
 use Rattle.qm_gadget.proofs.lengths.lengths_over.Goals as goal
 
 pub invariant_of-spread-clause-few : goal.invariant_of-spread-clause-few
@@ -13,11 +13,4 @@ states_in-requires-clause-wide c = rw (
 ) c.requires.edges.1
 
 pub returns : goal.returns
-returns c =
-    let ons = c.deref-3.ensures.value ∙ c.in_ok-ons.ensures in
-    rw (← plan_counts c.args.boxes.now.ready c.in_ok-plan.ensures) (rw (
-      ← c.in_ok-plan.ensures.units,
-      ← c.deref-2.ensures.value,
-      ← c.deref.ensures.value,
-      ← ons,
-    ) c.raise.ensures)
+returns c = rw (← plan_counts c.args.boxes.now.ready c.in_ok-plan.ensures) (search rules)
