@@ -1,6 +1,6 @@
 -- Balance at the nodes of the network of a layout is that opposite sides have equal sums.
 use Rattle.std.proofs.Common.{rules, ◌≡◌, ◌⊎◌, ℕ, ◌+◌, ◌*◌, ◌/◌, ◌%◌, ◌<◌, ◌≤◌, Bool, true, false, cond, not, ℤ, pos}
-use Rattle.std.proofs.Common.{◌+ℤ◌, List, [], ◌∷◌, length, Some, None, refl, sym, ap, ◌∙◌, subst, inl, inr, arith}
+use Rattle.std.proofs.Common.{◌+ℤ◌, List, [], ◌∷◌, length, Option, Some, None, refl, sym, ap, ◌∙◌, inl, inr, arith}
 use Rattle.std.proofs.lemmas.Bool.{cases_eq, cases_lt, ne_eqb, false≢true}
 use Rattle.std.proofs.{lemmas.Int.ints, lemmas.List.ext_get_or}
 use Rattle.sum_laws.proofs.Sums.{total_below_none, total_below_one, total_below_same}
@@ -24,35 +24,6 @@ on_is p q s w on = search rules
 pub node_low : (q : ℕ) (s : Way) (patches : ℕ) → q < patches → node_of q s < 2 * patches
 node_low q s h1 = search rules
 
--- The slots of an arc: the one of its own direction, and the other one, if there is one.
-pub record HasSlots (l : Gluing) (k : ℕ) : Type 0 where
-  pub ahead : Slot
-  pub ahead_is : IsSlot l ahead
-  pub ahead_use : use_of l ahead ≡ use_of_arc k true
-  pub right : ((v : Slot) × IsSlot l v × (use_of l v ≡ use_of_arc k false))
-      ⊎ ((v : Slot) → IsSlot l v → use_of l v ≡ use_of_arc k false → ⊥)
-
-pub has_slots : {l : Gluing} → IsSurface l → (k : ℕ) → k < l.arcs → HasSlots l k
-has_slots {l} laid k low =
-    let w = laid.forward k low in
-    let arc = ap (λ (u : SideArc). u.arc) w.2 in
-    let turned = ap (λ (u : SideArc). not u.forward) w.2 in
-    record {
-      ahead = w.0;
-      ahead_is = w.1;
-      ahead_use = w.2;
-      right = elim (laid.other w.0 w.1) [
-        | inl v ↦ inl (v.0, v.1.0, λ i. use_of_arc ((v.1.1.arc ∙ arc) i) ((v.1.1.turned ∙ turned) i))
-        | inr none ↦ inr (λ v slot e. none v (
-          slot,
-          record {
-            arc = ap (λ (u : SideArc). u.arc) e ∙ sym arc;
-            turned = ap (λ (u : SideArc). u.forward) e ∙ sym turned;
-          },
-        ))
-      ];
-    }
-
 -- The ends of an arc are those of its slots.
 module _ {l : Gluing} {old wish floor : Lengths} {set : Settings} {net : Network}
     (is : IsNetOf l old wish set floor net) where
@@ -69,18 +40,32 @@ module _ {l : Gluing} {old wish floor : Lengths} {set : Settings} {net : Network
   alone_at a low never = search rules
 
   -- What is so of one end and of two ends, however they are used, is so of the ends of an arc.
-  pub by_ends : (P : List End → Type 0) → IsSurface l → (k : ℕ) → k < l.arcs
+  pub by_ends : (P : End → Option End → Type 0) → IsSurface l → (k : ℕ) → k < l.arcs
       → ((w : Slot) → IsSlot l w → use_of l w ≡ use_of_arc k true
-      → (((v : Slot) → IsSlot l v → use_of l v ≡ use_of_arc k false → ⊥) → P (end_at w.patch w.side ∷ []))
+      → (((v : Slot) → IsSlot l v → use_of l v ≡ use_of_arc k false → ⊥) → P (end_at w.patch w.side) None)
       × ((v : Slot) → IsSlot l v → use_of l v ≡ use_of_arc k false
-      → P (end_at w.patch w.side ∷ end_at v.patch v.side ∷ []))) → P (ends (arc_at net.arcs k))
+      → P (end_at w.patch w.side) (Some (end_at v.patch v.side))))
+      → P (arc_at net.arcs k).left (arc_at net.arcs k).right
   by_ends P laid k low by =
-      let h = has_slots laid k low in
-      let f = by h.ahead h.ahead_is h.ahead_use in
-      let left = left_at h.ahead_is h.ahead_use in
-      elim h.right [
-        | inl v ↦ subst P (λ i. sym left i ∷ option_to_list (sym (right_at v.1 v.2) i)) (f.1 v.0 v.1 v.2)
-        | inr none ↦ subst P (λ i. sym left i ∷ option_to_list (sym (alone_at k low none) i)) (f.0 none)
+      let w = laid.forward k low in
+      let f = by w.0 w.1 w.2 in
+      let arc = ap (λ (u : SideArc). u.arc) w.2 in
+      let turned = ap (λ (u : SideArc). not u.forward) w.2 in
+      elim (laid.other w.0 w.1) [
+        | inl v ↦
+            let used : use_of l v.0 ≡ use_of_arc k false = λ i. use_of_arc ((v.1.1.arc ∙ arc) i)
+            ((v.1.1.turned ∙ turned) i) in
+            rw (left_at w.1 w.2, right_at v.1.0 used) (f.1 v.0 v.1.0 used)
+        | inr none ↦
+            let never = λ (v : Slot) (slot : IsSlot l v) (used : use_of l v ≡ use_of_arc k false).
+            none v (
+              slot,
+              record {
+                arc = ap (λ (u : SideArc). u.arc) used ∙ sym arc;
+                turned = ap (λ (u : SideArc). u.forward) used ∙ sym turned;
+              },
+            ) in
+            rw (left_at w.1 w.2, alone_at k low never) (f.0 never)
       ]
 
 module _ (l : Gluing) (old wish : Lengths) (set : Settings) (floor : Lengths) (net : Network) (laid : IsSurface l)
@@ -108,17 +93,14 @@ module _ (l : Gluing) (old wish : Lengths) (set : Settings) (floor : Lengths) (n
 
       by_place : (b : Bool) → is_on_side (node_of p s) (is_plus s) (end_at w.patch w.side) ≡ b
           → hits p s k forward ≡ cond b (x k) (pos 0)
-      by_place false off = hits_none p s k forward (λ j less u. false≢true (sym off
-          ∙ subst (λ (v : Slot). is_on_side (node_of p s) (is_plus s) (end_at v.patch v.side) ≡ true) (place j less u)
-          (on_itself p s)))
+      by_place false off = hits_none p s k forward (λ j less u. let same = place j less u in cc (on_itself p s, off))
       by_place true on =
           let (patch, side) = on_is p w.patch s w.side on in
           let less : w.at < l.many p s = rw (patch, side) at slot.low in
           let there : l.use_at p s w.at ≡ use_of_arc k forward = rw (patch, side) at e in
           total_below_one (λ j. cond (is_hit k forward (l.use_at p s j)) (x k) (pos 0)) (l.many p s) w.at less
-          (λ j low_j ne. ap (λ (b : Bool). cond b (x k) (pos 0))
-          (no_hit k forward (l.use_at p s j) (λ u. ne (ap (λ (v : Slot). v.at) (place j low_j u)))))
-          ∙ ap (λ (b : Bool). cond b (x k) (pos 0)) (ap (is_hit k forward) there ∙ hit_of k forward)
+          (λ j low_j ne. rw (no_hit k forward (l.use_at p s j) (λ u. ne (ap (λ (v : Slot). v.at) (place j low_j u)))) refl)
+          ∙ rw (there, hit_of k forward) refl
 
   -- What ends put on one side of a node, of an arc with entry y.
   abbrev put : (v : ℕ) (plus : Bool) (y : ℤ) (es : List End) → ℤ
@@ -127,8 +109,8 @@ module _ (l : Gluing) (old wish : Lengths) (set : Settings) (floor : Lengths) (n
   -- An arc puts on a side of a node what the uses of the side put on the arc.
   put_is : (p : ℕ) (s : Way) (k : ℕ) → p < l.patches → k < l.arcs
       → put (node_of p s) (is_plus s) (x k) (ends (arc_at net.arcs k)) ≡ hits p s k true +ℤ hits p s k false
-  put_is p s k low k_low = by_ends is (λ es. put (node_of p s) (is_plus s) (x k) es ≡ hits p s k true
-      +ℤ hits p s k false) laid k k_low (λ w slot e. (
+  put_is p s k low k_low = by_ends is (λ left right. put (node_of p s) (is_plus s) (x k)
+      (left ∷ option_to_list right) ≡ hits p s k true +ℤ hits p s k false) laid k k_low (λ w slot e. (
         λ none. omega (
           arith,
           ints,
@@ -140,16 +122,17 @@ module _ (l : Gluing) (old wish : Lengths) (set : Settings) (floor : Lengths) (n
 
   -- The sum at the node of a side, on its side, is the sum along it.
   pub side_is : (p : ℕ) (s : Way) → p < l.patches → side_sum net.arcs x (is_plus s) (node_of p s) ≡ sum_along l x p s
-  side_is p s low = ap (total_below (λ k. put (node_of p s) (is_plus s) (x k) (ends (arc_at net.arcs k)))) is.long
-      ∙ (total_below_same (λ k. put (node_of p s) (is_plus s) (x k) (ends (arc_at net.arcs k)))
-      (λ k. hits p s k true +ℤ hits p s k false) l.arcs (λ k l_k. put_is p s k low l_k)
-      ∙ sym (along_is x l.arcs (l.many p s) (l.use_at p s)
-      (λ j less. laid.paved.arc_low (slot_at p s j) (record { patch_low = low; low = less }))))
+  side_is p s low = rw (
+    is.long,
+    along_is x l.arcs (l.many p s) (l.use_at p s)
+        (λ j less. laid.paved.arc_low (slot_at p s j) (record { patch_low = low; low = less })),
+  ) (total_below_same _ _ l.arcs (λ k k_low. put_is p s k low k_low))
 
   -- Past the last node there is no end.
   none_at : (v : ℕ) (plus : Bool) → 2 * l.patches ≤ v → side_sum net.arcs x plus v ≡ pos 0
   none_at v plus high = total_below_none (λ k. put v plus (x k) (ends (arc_at net.arcs k))) (length net.arcs)
-      (λ k less. by_ends is (λ es. put v plus (x k) es ≡ pos 0) laid k (omega (arith, is.long, less)) (λ w slot e. (
+      (λ k less. by_ends is (λ left right. put v plus (x k) (left ∷ option_to_list right) ≡ pos 0) laid k
+      (omega (arith, is.long, less)) (λ w slot e. (
         λ none. omega (arith, ints, off k w slot),
         λ u slot_u e_u. omega (arith, ints, off k w slot, off k u slot_u),
       )))
@@ -158,22 +141,11 @@ module _ (l : Gluing) (old wish : Lengths) (set : Settings) (floor : Lengths) (n
       off k w slot = search (rules, ne_eqb)
 
   balanced : AreOpposite l x → IsBalanced net.arcs x
-  balanced equal v = elim (cases_lt v (2 * l.patches)) [
-    | inl less ↦
-        let p = v / 2 in
-        let low : p < l.patches = omega arith in
-        elim (cases_eq (v % 2) 0) [
-          | inl even ↦
-              let e : 2 * p ≡ v = omega arith in
-              subst (λ (u : ℕ). side_sum net.arcs x true u ≡ side_sum net.arcs x false u) e
-              (side_is p south low ∙ (equal.across p low ∙ sym (side_is p north low)))
-          | inr odd ↦
-              let e : 2 * p + 1 ≡ v = omega arith in
-              subst (λ (u : ℕ). side_sum net.arcs x true u ≡ side_sum net.arcs x false u) e
-              (side_is p east low ∙ (equal.upright p low ∙ sym (side_is p west low)))
-        ]
-    | inr high ↦ none_at v true high ∙ sym (none_at v false high)
-  ]
+  balanced equal v =
+      let p = v / 2 in
+      let flat = λ (low : p < l.patches). side_is p south low ∙ (equal.across p low ∙ sym (side_is p north low)) in
+      let tall = λ (low : p < l.patches). side_is p east low ∙ (equal.upright p low ∙ sym (side_is p west low)) in
+      grind (arith, cases_lt v (2 * l.patches), cases_eq (v % 2) 0, flat, tall, none_at v)
 
 pub balance_law : BalanceLaw
 balance_law l old wish set floor net laid is x =
@@ -193,14 +165,14 @@ one_net_law l old wish set floor laid one other is also = λ i. record {
     arc : (a : ℕ) → a < length one.arcs → arc_at one.arcs a ≡ arc_at other.arcs a
     arc a low_here =
         let low : a < l.arcs = omega (arith, is.long) in
-        let h = has_slots laid a low in
-        let right : (arc_at one.arcs a).right ≡ (arc_at other.arcs a).right = elim h.right [
-          | inl w ↦ right_at is w.1 w.2 ∙ sym (right_at also w.1 w.2)
-          | inr never ↦ alone_at is a low never ∙ sym (alone_at also a low never)
-        ] in
+        let sides = by_ends is (λ left right. (left ≡ (arc_at other.arcs a).left) × (right
+        ≡ (arc_at other.arcs a).right)) laid a low (λ w slot e. (
+          λ never. (sym (left_at also slot e), sym (alone_at also a low never)),
+          λ v slot_v e_v. (sym (left_at also slot e), sym (right_at also slot_v e_v)),
+        )) in
         λ i. record {
-          left = (left_at is h.ahead_is h.ahead_use ∙ sym (left_at also h.ahead_is h.ahead_use)) i;
-          right = right i;
+          left = sides.0 i;
+          right = sides.1 i;
           old = (is.olds a low ∙ sym (also.olds a low)) i;
           weight = (is.weights a low ∙ sym (also.weights a low)) i;
           floor = (is.floors a low ∙ sym (also.floors a low)) i;

@@ -54,14 +54,9 @@ ends_few (e ∷ es) n = omega (
   ends_few es n,
 )
 
-ends_at : (es : List End) (v : ℕ) → count (λ e. cond (e.node == v) 1 0) es ≤ length es
-ends_at [] v = omega arith
-ends_at (e ∷ es) v = omega (arith, once_at_most (e.node == v), ends_at es v)
-
 -- An arc has one or two.
 right_few : (right : Option End) → length (option_to_list right) ≤ 1
-right_few None = omega arith
-right_few (Some r) = omega arith
+right_few right = grind arith
 
 degrees_few : (arcs : List Arc) (n : ℕ) → count_below (degree arcs) n ≤ 2 * length arcs
 degrees_few [] n = omega (arith, count_below_none (λ v. 0) n (λ v l. refl))
@@ -73,17 +68,13 @@ degrees_few (a ∷ arcs) n = omega (
   degrees_few arcs n,
 )
 
-degree_few : (arcs : List Arc) (v : ℕ) → degree arcs v ≤ 2 * length arcs
-degree_few [] v = omega arith
-degree_few (a ∷ arcs) v = omega (arith, ends_at (ends a) v, right_few a.right, degree_few arcs v)
-
 pub tangle_small : (net : Network) → length net.arcs ≤ 2 ^ 23 → tangle_number net < 2 ^ 64
 tangle_small net few =
     let d = degree net.arcs in
     omega (
       arith,
       count_below_le (λ v. 16 * (d v * d v)) (λ v. 2 ^ 28 * d v) net.nodes
-          (λ v l. let low : d v ≤ 2 ^ 24 = omega (arith, degree_few net.arcs v) in
+          (λ v l. let low : d v ≤ 2 ^ 24 = omega (arith, term_low d net.nodes v l, degrees_few net.arcs net.nodes) in
           omega (arith, mul-le-mul_right {m = d v} {n = 2 ^ 24} (d v) low)),
       count_below_times (2 ^ 28) d net.nodes,
       degrees_few net.arcs net.nodes,
@@ -112,10 +103,7 @@ open_at set (r ∷ rs) (suc a) l = open_at set rs a (omega arith)
 
 pub ends_begin : (l : Gluing) (set : Settings) (runs : List TArc) → length (map path runs) ≡ l.arcs
     → AreEnds l (long_at (map path runs)) set (PatchesBelow 0) (map (open_arc set) runs)
-ends_begin l set runs long = search (rules, length-map, at)
-  where
-    at : (a : ℕ) → a < l.arcs → arc_at (map (open_arc set) runs) a ≡ arc_of set (long_at (map path runs) a)
-    at a low = open_at set runs a (omega (arith, length-map runs path))
+ends_begin l set runs long = search (rules, length-map, open_at)
 
 -- When all slots are done, these are the arcs of the network.
 pub net_is : (l : Gluing) (old : Lengths) (set : Settings) (net : Network) → net.nodes ≡ 2 * l.patches → net.p ≡ set.p
@@ -155,7 +143,8 @@ module _ {l : Gluing} {x floor : Lengths} {set : Settings} {net : Network} (laid
   weight_low w n h = search rules
 
   ends_low : (k : ℕ) → k < l.arcs → list_all (λ (e : End). nat_lt e.node net.nodes) (ends (arc_at net.arcs k)) ≡ true
-  ends_low k low = by_ends is (λ es. list_all (λ (e : End). nat_lt e.node net.nodes) es ≡ true) laid k low
+  ends_low k low = by_ends is (λ left right. list_all (λ (e : End). nat_lt e.node net.nodes)
+      (left ∷ option_to_list right) ≡ true) laid k low
       (λ w slot e. (λ none. rw (at w slot) refl, λ v slot_v e_v. rw (at w slot, at v slot_v) refl))
     where
       at : (v : Slot) → IsSlot l v → nat_lt (node_of v.patch v.side) net.nodes ≡ true

@@ -1,7 +1,7 @@
 -- A network with other floors is as even and as tangled as it was, and it is the network of the same layout.
 use Rattle.std.proofs.Common.{rules, ◌≡◌, ℕ, ◌*◌, ◌<◌, ◌≤◌, Bool, true, ◌&&◌, length, ℤ, pos, ◌-ℤ◌, ◌*ℤ◌, sym, ap, ◌∙◌}
 use Rattle.std.proofs.Common.{List, None, map, refl, subst, leb-true, arith, suc, ◌-◌, [], ◌∷◌}
-use Rattle.std.proofs.lemmas.Bool.{and_parts, le-leb, cases_eq, cond-true, eq-eqb}
+use Rattle.std.proofs.lemmas.Bool.{cases_eq, cond-true, eq-eqb, Decides.nat_tests}
 use Rattle.std.proofs.lemmas.List.{ext_get_or, get_or-map, length-map}
 use Rattle.std.specs.{Prelude.nat_le, Prelude.nat_lt, Prelude.unsigned_abs, Prelude.◌==◌, List.list_all}
 use Rattle.sum_laws.proofs.Sums.{count_below_same, count_below_lt}
@@ -14,7 +14,7 @@ use Rattle.def_layoutnet.specs.{LayoutNet.IsNetOf, Floors.at_floor, Floors.HasFl
 use Rattle.qm_layoutnet.proofs.Built.{all_pass, count_same, sums_same, tangle_same}
 use Rattle.def_certtext.specs.declared.certs.Rise.{Rise}
 use Rattle.def_remesh.specs.Rises.{rise_at, risen_floors, AreNeeded, IsNeeded}
-use Rattle.{def_math.specs.Counts.count_below, qm_net.proofs.Within.arc_bounded, qm_layoutnet.specs.Floors.AreFloored}
+use Rattle.{def_math.specs.Counts.count_below, qm_net.proofs.Within.arc_within, qm_layoutnet.specs.Floors.AreFloored}
 
 -- The arc past the last one.
 abbrev no_arc : Arc
@@ -41,24 +41,17 @@ has_floors net floor new same = subst (HasFloors net (λ a. floor)) (sym same) (
 -- No floor of a network within bounds is above the greatest.
 pub floor_high : (net : Network) → IsWithinBounds net → (k : ℕ) → k < length net.arcs
     → (arc_at net.arcs k).floor ≤ MAX_FLOOR
-floor_high net b k l =
-    let a = arc_at net.arcs k in
-    let low = nat_le 1 a.weight && nat_le a.weight MAX_WEIGHT && nat_le a.old MAX_OLD && nat_le 1 a.floor in
-    let parts = and_parts (low && nat_le a.floor MAX_FLOOR) _ (arc_bounded net b k l) in
-    leb-true a.floor MAX_FLOOR (and_parts low _ parts.0).1
+floor_high net b k l = (arc_within b l).floor_high
 
 module _ (net : Network) (floor : Lengths) (new : Network) (has : HasFloors net floor new) where
   pub floors_at : (k : ℕ) → k < length new.arcs → (arc_at new.arcs k).floor ≡ floor k
   floors_at k l = ap (λ (a : Arc). a.floor) (has.arcs k (omega arith))
 
-  same_ends : (k : ℕ) → k < length net.arcs → ends (arc_at new.arcs k) ≡ ends (arc_at net.arcs k)
-  same_ends k l = ap ends (has.arcs k l)
-
   old_at : (k : ℕ) → k < length net.arcs → (arc_at new.arcs k).old ≡ (arc_at net.arcs k).old
   old_at k l = ap (λ (a : Arc). a.old) (has.arcs k l)
 
   pub floors_tangle : tangle_number new ≡ tangle_number net
-  floors_tangle = tangle_same net new has.nodes has.long same_ends
+  floors_tangle = tangle_same net new has.nodes has.long (λ k l. ap ends (has.arcs k l))
 
   pub floors_even : IsEven net → IsEven new
   floors_even even = search (rules, old_at, count_same (λ a. a.old) new.arcs net.arcs has.long old_at, sums)
@@ -71,50 +64,25 @@ module _ (net : Network) (floor : Lengths) (new : Network) (has : HasFloors net 
   pub floors_deviation : (x : ℕ → ℤ) → deviation new x ≡ deviation net x
   floors_deviation x = ap (count_below (λ k. arc_deviation new (arc_at new.arcs k) (x k))) has.long ∙ count_below_same
       (λ k. arc_deviation new (arc_at new.arcs k) (x k)) (λ k. arc_deviation net (arc_at net.arcs k) (x k)) (length
-      net.arcs) (λ k l. ap (λ (a : Arc). arc_deviation new a (x k)) (has.arcs k l) ∙ scale (arc_at net.arcs k) (x k))
-    where
-      scale : (a : Arc) (y : ℤ) → arc_deviation new a y ≡ arc_deviation net a y
-      scale a y = λ i. a.weight * unsigned_abs (pos (has.q i) *ℤ y -ℤ pos (has.p i * a.old))
+      net.arcs) (λ k l. λ i. (has.arcs k l i).weight * unsigned_abs
+      (pos (has.q i) *ℤ x k -ℤ pos (has.p i * (has.arcs k l i).old)))
 
   -- Floors within their bounds leave the network within bounds.
   pub floors_within : IsWithinBounds net → ((k : ℕ) → k < length net.arcs → (1 ≤ floor k) × (floor k ≤ MAX_FLOOR))
       → IsWithinBounds new
-  floors_within b within = record {
-    p_low = omega arith;
-    p_high = omega arith;
-    q_low = omega arith;
-    q_high = omega arith;
-    arcs = all_pass _ new.arcs (λ k l. bounded k (omega arith));
-    few = omega arith;
-  }
-    where
-      bounded : (k : ℕ) → k < length net.arcs → is_bounded new.nodes (arc_at new.arcs k) ≡ true
-      bounded k l =
-          let a = arc_at net.arcs k in
-          let all : Bool = list_all (λ (e : End). nat_lt e.node net.nodes) (ends a) in
-          let numbers = nat_le 1 a.weight && nat_le a.weight MAX_WEIGHT && nat_le a.old MAX_OLD in
-          let parts = and_parts (numbers && nat_le 1 a.floor && nat_le a.floor MAX_FLOOR) all (arc_bounded net b k l) in
-          let first = and_parts numbers _ (and_parts (numbers && nat_le 1 a.floor) _ parts.0).0 in
-          let kept : is_bounded net.nodes (at_floor (floor k) (arc_at net.arcs k)) ≡ true =
-          rw (first.0, le-leb 1 (floor k) (within k l).0, le-leb (floor k) MAX_FLOOR (within k l).1) parts.1 in
-          (λ i. is_bounded (has.nodes i) (has.arcs k l i)) ∙ kept
+  floors_within b within =
+      let each : list_all (is_bounded new.nodes) new.arcs ≡ true = all_pass _ new.arcs (λ k l.
+      let low : k < length net.arcs = omega arith in
+      let was = arc_within b low in
+      rw (has.nodes, has.arcs k low) (grind (arith, nat_tests, within k low))) in
+      search (rules, each)
 
 -- It is the network of the layout for these floors.
 pub floored : (l : Gluing) (old wish : Lengths) (settings : Settings) (before floor : Lengths) (net new : Network)
     → IsSurface l → IsNetOf l old wish settings before net → HasFloors net floor new
     → IsNetOf l old wish settings floor new
-floored l old wish settings before floor net new laid is has = record {
-  nodes = has.nodes ∙ is.nodes;
-  p = has.p ∙ is.p;
-  q = has.q ∙ is.q;
-  long = has.long ∙ is.long;
-  olds = λ a low. ap (λ (x : Arc). x.old) (at a low) ∙ is.olds a low;
-  weights = λ a low. ap (λ (x : Arc). x.weight) (at a low) ∙ is.weights a low;
-  floors = λ a low. ap (λ (x : Arc). x.floor) (at a low);
-  left = λ w slot f. ap (λ (x : Arc). x.left) (at _ (laid.paved.arc_low w slot)) ∙ is.left w slot f;
-  right = λ w slot f. ap (λ (x : Arc). x.right) (at _ (laid.paved.arc_low w slot)) ∙ is.right w slot f;
-  alone = λ a low only. ap (λ (x : Arc). x.right) (at a low) ∙ is.alone a low only;
-}
+floored l old wish settings before floor net new laid is has =
+    search (rules, at, has, is.olds, is.weights, is.left, is.right, is.alone, laid.paved.arc_low)
   where
     at : (a : ℕ) → a < l.arcs → arc_at new.arcs a ≡ at_floor (floor a) (arc_at net.arcs a)
     at a low = has.arcs a (omega arith)

@@ -31,10 +31,8 @@ returns c =
     let x = long_at (map path t.arcs.items) in
     let set = c.args.set.now in
     let arcs = (with_items c.in_ok-arcs.arcs c.put_all_ends.new.arcs).items in
-    let opened : c.deref_mut.result.now ≡ map (open_arc set) t.arcs.items =
-    c.deref_mut.ensures.value ∙ (c.in_ok-arcs.ensures ∙ ap (map (open_arc set)) c.deref.ensures.value) in
-    let begun = subst (λ (arcs : List Arc). AreEnds l x set (PatchesBelow 0) arcs) (sym opened)
-    (ends_begin l set t.arcs.items refl) in
+    let begun : AreEnds l x set (PatchesBelow 0) c.deref_mut.result.now =
+    rw (c.deref_mut.ensures.value, c.in_ok-arcs.ensures, c.deref.ensures.value) (ends_begin l set t.arcs.items refl) in
     let put : AreEnds l x set (PatchesBelow (length t.patches.items)) arcs = rw (with_items_is c.in_ok-arcs.arcs
     c.put_all_ends.new.arcs (c.put_all_ends.auto.arcs ∙ c.deref_mut.ensures.len)) (c.put_all_ends.ensures set begun) in
     let is = net_is l x set (record { nodes = 2 * c.len.result; arcs = arcs; p = set.p; q = set.q })

@@ -21,10 +21,8 @@ loop-p-preserved c =
     let p_low : c.loop-p.p < length (map rectangle t.patches.items) =
     omega (arith, c.len-p-end.ensures, c.requires.sided, length-map t.patches.items rectangle) in
     record {
-      done = λ set begin. rw c.put_four.ensures (patch_more (gluing_of (layout_of t))
-          (long_at (map path t.arcs.items)) set c.requires.laid c.loop-p.p (side_at (layout_of t) c.loop-p.p)
-          c.loop-p.arcs p_low (λ s j d h. get_or_default (side_at (layout_of t) c.loop-p.p s) j d _ h) (λ s. refl)
-          (c.loop-p.invariant.done set begin));
+      done = λ set begin. rw c.put_four.ensures
+          (patch_more (layout_of t) c.requires.laid c.loop-p.p p_low (c.loop-p.invariant.done set begin));
       long = omega (arith, c.put_four.auto.arcs, c.loop-p.invariant.long);
     }
 
