@@ -1,7 +1,7 @@
 -- Balance at the nodes of the network of a layout is that opposite sides have equal sums.
-use Rattle.std.proofs.Common.{rules, ◌≡◌, ◌⊎◌, ℕ, ◌+◌, ◌*◌, ◌/◌, ◌%◌, ◌<◌, ◌≤◌, Bool, true, false, cond, not, ℤ, pos}
-use Rattle.std.proofs.Common.{◌+ℤ◌, List, [], ◌∷◌, length, Option, Some, None, refl, sym, ap, ◌∙◌, inl, inr, arith}
-use Rattle.std.proofs.lemmas.Bool.{cases_eq, cases_lt, ne_eqb, false≢true}
+use Rattle.std.proofs.Common.{rules, ◌≡◌, ℕ, ◌*◌, ◌/◌, ◌%◌, ◌<◌, ◌≤◌, Bool, true, false, cond, not, ℤ, pos}
+use Rattle.std.proofs.Common.{◌+ℤ◌, List, ◌∷◌, length, Option, Some, None, refl, sym, ap, ◌∙◌, inl, inr, arith}
+use Rattle.std.proofs.lemmas.Bool.{cases_eq, cases_lt, ne_eqb}
 use Rattle.std.proofs.{lemmas.Int.ints, lemmas.List.ext_get_or}
 use Rattle.sum_laws.proofs.Sums.{total_below_none, total_below_one, total_below_same}
 use Rattle.def_flow.specs.{Admissible.is_on_side, Admissible.side_sum, Admissible.IsBalanced, Network.Network}
@@ -58,13 +58,7 @@ module _ {l : Gluing} {old wish floor : Lengths} {set : Settings} {net : Network
             rw (left_at w.1 w.2, right_at v.1.0 used) (f.1 v.0 v.1.0 used)
         | inr none ↦
             let never = λ (v : Slot) (slot : IsSlot l v) (used : use_of l v ≡ use_of_arc k false).
-            none v (
-              slot,
-              record {
-                arc = ap (λ (u : SideArc). u.arc) used ∙ sym arc;
-                turned = ap (λ (u : SideArc). u.forward) used ∙ sym turned;
-              },
-            ) in
+            none v (slot, record { arc = cc (used, w.2); turned = cc (used, w.2) }) in
             rw (left_at w.1 w.2, alone_at k low never) (f.0 never)
       ]
 
@@ -99,7 +93,8 @@ module _ (l : Gluing) (old wish : Lengths) (set : Settings) (floor : Lengths) (n
           let less : w.at < l.many p s = rw (patch, side) at slot.low in
           let there : l.use_at p s w.at ≡ use_of_arc k forward = rw (patch, side) at e in
           total_below_one (λ j. cond (is_hit k forward (l.use_at p s j)) (x k) (pos 0)) (l.many p s) w.at less
-          (λ j low_j ne. rw (no_hit k forward (l.use_at p s j) (λ u. ne (ap (λ (v : Slot). v.at) (place j low_j u)))) refl)
+          (λ j low_j ne. rw (no_hit k forward (l.use_at p s j) (λ u. ne (ap (λ (v : Slot). v.at) (place j low_j u))))
+          refl)
           ∙ rw (there, hit_of k forward) refl
 
   -- What ends put on one side of a node, of an arc with entry y.
@@ -149,8 +144,7 @@ module _ (l : Gluing) (old wish : Lengths) (set : Settings) (floor : Lengths) (n
 
 pub balance_law : BalanceLaw
 balance_law l old wish set floor net laid is x =
-    let side = side_is l old wish set floor net laid is x in
-    search (rules, side, balanced l old wish set floor net laid is x)
+    search (rules, side_is l old wish set floor net laid is x, balanced l old wish set floor net laid is x)
 
 -- A layout has one network.
 

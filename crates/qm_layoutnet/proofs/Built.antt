@@ -1,21 +1,20 @@
 -- Lengths are equal on opposite sides exactly where their whole numbers are.
 use Rattle.std.proofs.Common.{rules, ◌≡◌, ℕ, pos, sym, ap, ◌∙◌, arith, zero, suc, ◌*◌, ◌^◌, ◌<◌, ◌≤◌, Bool, cond, ◌==◌}
-use Rattle.std.proofs.Common.{List, [], ◌∷◌, length, Option, Some, None, refl, true, map, ◌&&◌, ℤ}
-use Rattle.std.proofs.lemmas.Bool.{cases_eq, lt-ltb}
-use Rattle.std.proofs.{lemmas.Int.ints, Math.Nat.mul-le-mul_right, lemmas.List.length-map}
-use Rattle.std.specs.{Prelude.option_to_list, Prelude.nat_lt, List.list_all}
-use Rattle.sum_laws.proofs.{Sums.count_below_total, Sums.count_below_le, Sums.count_below_none, Sums.count_below_sum}
-use Rattle.sum_laws.proofs.{Sums.count_below_times, Sums.count_below_prefix, Sums.count_below_ones}
-use Rattle.sum_laws.proofs.{Sums.count_below_same, Sums.total_below_same, Tests.once_at_most}
+use Rattle.std.proofs.Common.{List, [], ◌∷◌, length, Option, refl, true, map, ℤ}
+use Rattle.std.proofs.lemmas.{Bool.cases_eq, Bool.lt-ltb, Int.ints, List.length-map}
+use Rattle.std.{proofs.Math.Nat.mul-le-mul_right, specs.Prelude.option_to_list, specs.Prelude.nat_lt}
+use Rattle.{std.specs.List.list_all, sum_laws.proofs.Sums.count_below_total}
+use Rattle.sum_laws.proofs.Sums.{count_below_le, count_below_none, count_below_sum, count_below_times}
+use Rattle.sum_laws.proofs.Sums.{count_below_prefix, count_below_ones, count_below_same, total_below_same}
 use Rattle.def_layout.specs.{Gluings.Way, Gluings.Gluing, Gluings.Slot, Gluings.IsSlot, Lengths.size, Lengths.Lengths}
 use Rattle.def_layout.specs.{Lengths.AreLengths, declared.tmesh.TArc.TArc, Arcs.path, Arcs.long_at, Surfaces.IsSurface}
-use Rattle.def_layoutnet.specs.{LayoutNetLaws.sum_along, LayoutNetLaws.OppositeLaw, LayoutNet.node_of}
-use Rattle.def_layoutnet.specs.{LayoutNet.weight_of, LayoutNet.AreSettings, LayoutNet.IsNetOf}
-use Rattle.def_math.specs.{Counts.count, Counts.count_below}
+use Rattle.def_layoutnet.specs.LayoutNetLaws.{sum_along, OppositeLaw}
+use Rattle.def_layoutnet.specs.LayoutNet.{node_of, weight_of, AreSettings, IsNetOf}
+use Rattle.def_math.specs.Counts.{count, count_below}
 use Rattle.def_flow.specs.Network.{degree, ends, tangle_number, Network, arc_at, is_bounded, IsWithinBounds}
 use Rattle.def_flow.specs.declared.limits.TheConstants.{MAX_FLOOR, MAX_WEIGHT}
-use Rattle.def_flow.specs.{declared.net.Arc.Arc, declared.net.End.End, Admissible.IsEven, Admissible.side_sum}
-use Rattle.def_flow.specs.{declared.net.Settings.Settings, declared.net.Weight.Weight}
+use Rattle.def_flow.specs.declared.net.{Arc.Arc, End.End, Settings.Settings, Weight.Weight}
+use Rattle.def_flow.specs.Admissible.{IsEven, side_sum}
 use Rattle.qm_layoutnet.specs.Ends.{arc_of, open_arc, AreEnds, PatchesBelow}
 use Rattle.qm_layoutnet.proofs.Balance.{balance_law, by_ends, node_low}
 
@@ -91,8 +90,7 @@ count_at f (x ∷ xs) = omega (arith, count_at f xs, count_below_prefix (λ k. f
 pub all_pass : (p : Arc → Bool) (xs : List Arc) → ((k : ℕ) → k < length xs → p (arc_at xs k) ≡ true)
     → list_all p xs ≡ true
 all_pass p [] each = refl
-all_pass p (x ∷ xs) each = ap (λ (b : Bool). b && list_all p xs) (each 0 (omega arith))
-    ∙ all_pass p xs (λ k l. each (suc k) (omega arith))
+all_pass p (x ∷ xs) each = search (rules, each 0, all_pass p xs (λ k l. each (suc k) (omega arith)))
 
 -- The arcs before any end is put in.
 open_at : (set : Settings) (runs : List TArc) (a : ℕ) → a < length runs → arc_at (map (open_arc set) runs) a
@@ -129,12 +127,7 @@ module _ {l : Gluing} {x floor : Lengths} {set : Settings} {net : Network} (laid
   even : IsEven net
   even = record {
     high = λ k low. omega (arith, old_at k low, len.some k (omega (arith, low, is.long)));
-    small = omega (
-      arith,
-      few,
-      count_at (λ a. a.old) net.arcs ∙ (count_below_same (λ k. (arc_at net.arcs k).old) x
-          (length net.arcs) old_at ∙ ap (count_below x) is.long),
-    );
+    small = search (rules, count_at, count_below_same, old_at, few);
     balanced = search (rules, balance_law l x x set floor net laid is (λ k. pos (arc_at net.arcs k).old), along_is);
   }
 
@@ -153,7 +146,6 @@ module _ {l : Gluing} {x floor : Lengths} {set : Settings} {net : Network} (laid
   bounded : (k : ℕ) → k < length net.arcs → is_bounded net.nodes (arc_at net.arcs k) ≡ true
   bounded k low =
       let k_low : k < l.arcs = omega (arith, is.long) in
-      let a = arc_at net.arcs k in
       let w = weight_low set.weight (x k) (len.some k k_low) in
       let f = floors k k_low in
       search (rules, is.weights k k_low, is.floors k k_low, old_at k low, term_low x l.arcs k k_low, ends_low k k_low)

@@ -1,17 +1,14 @@
 -- How often a side uses an arc in one direction, and the sum along a side as a sum over all arcs.
 use Rattle.std.proofs.Common.{rules, ◌≡◌, ℕ, zero, suc, ◌<◌, Bool, true, false, cond, not, ◌&&◌, ◌==◌, ℤ, pos, ◌+ℤ◌}
-use Rattle.std.proofs.Common.{refl, sym, ap, ◌∙◌, inl, inr, arith, ◌≢◌, ◌⊎◌, ◌+◌, ◌≤◌, List, [], ◌∷◌, length, get_or}
-use Rattle.std.proofs.Common.{Option, Some, subst}
-use Rattle.std.proofs.lemmas.Bool.{eq-eqb, ne_eqb, cases_eq, Decides.nat_tests}
-use Rattle.std.proofs.{lemmas.Int.ints}
-use Rattle.std.proofs.{lemmas.List.get_or-set_same, lemmas.List.get_or-set_other, lemmas.List.length-set}
+use Rattle.std.proofs.Common.{refl, sym, ap, ◌∙◌, inl, inr, arith, ◌⊎◌, ◌+◌, ◌≤◌, List, [], ◌∷◌, length, get_or, Some}
+use Rattle.std.proofs.lemmas.{Bool.ne_eqb, Bool.cases_eq, Bool.Decides.nat_tests, Int.ints, List.get_or-set_other}
+use Rattle.std.proofs.lemmas.{List.length-set, List.get_or_default, Grind.get_or-set_at}
 use Rattle.sum_laws.proofs.Sums.{total_below_none, total_below_one, total_below_same, total_below_sum}
 use Rattle.def_layout.specs.Gluings.{Way, south, east, north, west, Gluing, Slot, IsSlot, use_of}
 use Rattle.def_layout.specs.{declared.tmesh.SideArc.SideArc, Surfaces.IsSurface, Lengths.Lengths}
+use Rattle.def_layout.specs.Layouts.{Layout, gluing_of, side_at}
 use Rattle.def_flow.specs.{Network.arc_at, declared.net.Arc.Arc, declared.net.End.End, declared.net.Settings.Settings}
 use Rattle.qm_layoutnet.specs.Ends.{with_side, with_end, with_ends, with_four, AreEnds, PatchesBelow}
-use Rattle.def_layout.specs.Layouts.{Layout, gluing_of, side_at}
-use Rattle.std.proofs.lemmas.List.{get_or_default}
 use Rattle.{def_math.specs.Sums.total_below, def_layoutnet.specs.LayoutNet.end_at}
 
 -- Two sums may be taken in either order.
@@ -66,10 +63,7 @@ changed end u a arc = cond (a == u.arc) (with_side end u arc) arc
 
 changed_at : (end : End) (u : SideArc) (arcs : List Arc) (a : ℕ) → u.arc < length arcs
     → arc_at (with_end end u arcs) a ≡ changed end u a (arc_at arcs a)
-changed_at end u arcs a low = elim (cases_eq a u.arc) [
-  | inl e ↦ rw (e, eq-eqb u.arc u.arc refl) (get_or-set_same arcs u.arc _ _ low)
-  | inr ne ↦ rw (ne_eqb a u.arc ne) (get_or-set_other arcs u.arc a _ _ ne)
-]
+changed_at end u arcs a low = grind (arith, nat_tests, get_or-set_at, get_or-set_other)
 
 numbers_stay : (end : End) (u : SideArc) (a : ℕ) (arc : Arc) → ((changed end u a arc).old ≡ arc.old)
     × ((changed end u a arc).weight ≡ arc.weight) × ((changed end u a arc).floor ≡ arc.floor)

@@ -1,20 +1,18 @@
 -- A network with other floors is as even and as tangled as it was, and it is the network of the same layout.
-use Rattle.std.proofs.Common.{rules, ◌≡◌, ℕ, ◌*◌, ◌<◌, ◌≤◌, Bool, true, ◌&&◌, length, ℤ, pos, ◌-ℤ◌, ◌*ℤ◌, sym, ap, ◌∙◌}
-use Rattle.std.proofs.Common.{List, None, map, refl, subst, leb-true, arith, suc, ◌-◌, [], ◌∷◌}
-use Rattle.std.proofs.lemmas.Bool.{cases_eq, cond-true, eq-eqb, Decides.nat_tests}
-use Rattle.std.proofs.lemmas.List.{ext_get_or, get_or-map, length-map}
-use Rattle.std.specs.{Prelude.nat_le, Prelude.nat_lt, Prelude.unsigned_abs, Prelude.◌==◌, List.list_all}
+use Rattle.std.proofs.Common.{rules, ◌≡◌, ℕ, ◌<◌, ◌≤◌, Bool, true, length, ℤ, pos, ap, List, None, map, refl, subst}
+use Rattle.std.proofs.Common.{arith, suc, ◌-◌, [], ◌∷◌}
+use Rattle.std.proofs.lemmas.{Bool.cases_eq, Bool.cond-true, Bool.eq-eqb, Bool.Decides.nat_tests, List.ext_get_or}
+use Rattle.std.{proofs.lemmas.List.get_or-map, proofs.lemmas.List.length-map, specs.Prelude.◌==◌, specs.List.list_all}
 use Rattle.sum_laws.proofs.Sums.{count_below_same, count_below_lt}
 use Rattle.def_flow.specs.Network.{Network, arc_at, ends, is_bounded, tangle_number, IsWithinBounds}
-use Rattle.def_flow.specs.declared.limits.TheConstants.{MAX_FLOOR, MAX_OLD, MAX_WEIGHT}
-use Rattle.def_flow.specs.{Admissible.arc_deviation, Admissible.deviation, Admissible.side_sum, Admissible.IsEven}
-use Rattle.def_flow.specs.{declared.net.Arc.Arc, declared.net.End.End, declared.net.Settings.Settings}
+use Rattle.def_flow.specs.declared.{limits.TheConstants.MAX_FLOOR, net.Arc.Arc, net.Settings.Settings}
+use Rattle.def_flow.specs.Admissible.{deviation, side_sum, IsEven}
 use Rattle.def_layout.specs.{Gluings.Gluing, Lengths.Lengths, Surfaces.IsSurface}
 use Rattle.def_layoutnet.specs.{LayoutNet.IsNetOf, Floors.at_floor, Floors.HasFloors}
 use Rattle.qm_layoutnet.proofs.Built.{all_pass, count_same, sums_same, tangle_same}
-use Rattle.def_certtext.specs.declared.certs.Rise.{Rise}
+use Rattle.{qm_layoutnet.specs.Floors.AreFloored, def_certtext.specs.declared.certs.Rise.Rise}
 use Rattle.def_remesh.specs.Rises.{rise_at, risen_floors, AreNeeded, IsNeeded}
-use Rattle.{def_math.specs.Counts.count_below, qm_net.proofs.Within.arc_within, qm_layoutnet.specs.Floors.AreFloored}
+use Rattle.{def_math.specs.Counts.count_below, qm_net.proofs.Within.arc_within}
 
 -- The arc past the last one.
 abbrev no_arc : Arc
@@ -23,20 +21,13 @@ no_arc = record { left = record { node = 0; plus = true }; right = None; old = 0
 -- Where each arc has a floor, the list is that of the arcs with that floor.
 pub all_floored : (floor : ℕ) (arcs new : List Arc) → AreFloored (length arcs) floor arcs new
     → new ≡ map (at_floor floor) arcs
-all_floored floor arcs new are = ext_get_or no_arc new _ (are.long ∙ sym (length-map arcs _))
-    (λ k l. (let low : k < length arcs = omega arith in
-    are.done k low low ∙ sym (get_or-map _ arcs k no_arc no_arc low)))
+all_floored floor arcs new are = ext_get_or no_arc _ _ (search (rules, are.long, length-map))
+    (λ k l. search (rules, are.done, get_or-map, length-map))
 
 -- A network with these arcs has this floor everywhere.
 pub has_floors : (net : Network) (floor : ℕ) (new : Network)
     → new ≡ record net { arcs = map (at_floor floor) net.arcs } → HasFloors net (λ a. floor) new
-has_floors net floor new same = subst (HasFloors net (λ a. floor)) (sym same) (record {
-  nodes = refl;
-  p = refl;
-  q = refl;
-  long = length-map net.arcs _;
-  arcs = λ k l. get_or-map _ net.arcs k no_arc no_arc l;
-})
+has_floors net floor new same = rw same (search (rules, length-map, get_or-map))
 
 -- No floor of a network within bounds is above the greatest.
 pub floor_high : (net : Network) → IsWithinBounds net → (k : ℕ) → k < length net.arcs
@@ -62,10 +53,7 @@ module _ (net : Network) (floor : Lengths) (new : Network) (has : HasFloors net 
 
   -- Lists deviate as much from what is wanted.
   pub floors_deviation : (x : ℕ → ℤ) → deviation new x ≡ deviation net x
-  floors_deviation x = ap (count_below (λ k. arc_deviation new (arc_at new.arcs k) (x k))) has.long ∙ count_below_same
-      (λ k. arc_deviation new (arc_at new.arcs k) (x k)) (λ k. arc_deviation net (arc_at net.arcs k) (x k)) (length
-      net.arcs) (λ k l. λ i. (has.arcs k l i).weight * unsigned_abs
-      (pos (has.q i) *ℤ x k -ℤ pos (has.p i * (has.arcs k l i).old)))
+  floors_deviation x = search (rules, has.long, count_below_same, has.arcs, has.p, has.q)
 
   -- Floors within their bounds leave the network within bounds.
   pub floors_within : IsWithinBounds net → ((k : ℕ) → k < length net.arcs → (1 ≤ floor k) × (floor k ≤ MAX_FLOOR))
@@ -82,10 +70,7 @@ pub floored : (l : Gluing) (old wish : Lengths) (settings : Settings) (before fl
     → IsSurface l → IsNetOf l old wish settings before net → HasFloors net floor new
     → IsNetOf l old wish settings floor new
 floored l old wish settings before floor net new laid is has =
-    search (rules, at, has, is.olds, is.weights, is.left, is.right, is.alone, laid.paved.arc_low)
-  where
-    at : (a : ℕ) → a < l.arcs → arc_at new.arcs a ≡ at_floor (floor a) (arc_at net.arcs a)
-    at a low = has.arcs a (omega arith)
+    search (rules, has, has.arcs, is.long, is.olds, is.weights, is.left, is.right, is.alone, laid.paved.arc_low)
 
 -- Floors that rise: one by one from the last rise on, within their bounds, and higher than they were.
 

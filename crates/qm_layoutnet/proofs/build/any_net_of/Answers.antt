@@ -1,11 +1,10 @@
-use Rattle.std.proofs.Common.{rules, ◌≡◌, ℕ, ◌*◌, ◌^◌, ◌≤◌, List, map, length, sym, ap, ◌∙◌, refl, subst, arith}
+use Rattle.std.proofs.Common.{rules, ℕ, ◌*◌, ◌^◌, ◌≤◌, map, length, sym, ◌∙◌, refl, subst, arith}
 use Rattle.std.{proofs.lemmas.List.with_items_is, proofs.lemmas.List.length-map, specs.Vec.with_items}
 use Rattle.def_layout.specs.{Arcs.path, Arcs.long_at, Layouts.gluing_of, Layouts.layout_of}
-use Rattle.qm_layoutnet.specs.Ends.{open_arc, AreEnds, PatchesBelow}
-use Rattle.qm_layoutnet.proofs.{Built.all_is, Built.ends_begin, Built.net_is, Whole.few_patches, Whole.lengths_few}
-use Rattle.qm_layoutnet.proofs.{Whole.runs_short}
+use Rattle.qm_layoutnet.{specs.Ends.AreEnds, specs.Ends.PatchesBelow, proofs.Built.all_is}
+use Rattle.qm_layoutnet.proofs.{Built.ends_begin, Built.net_is, Whole.few_patches, Whole.lengths_few, Whole.runs_short}
 use Rattle.embedding_laws.proofs.Bounds.{laid_of, lengths_of}
-use Rattle.{def_math.specs.Counts.count_below, def_flow.specs.declared.net.Arc.Arc, def_cut.specs.Grids.rectangle}
+use Rattle.{def_math.specs.Counts.count_below, def_cut.specs.Grids.rectangle}
 use Rattle.qm_layoutnet.proofs.build.any_net_of.Goals as goal
 
 pub open_arcs-requires : goal.open_arcs-requires

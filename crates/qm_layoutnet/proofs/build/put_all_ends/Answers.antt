@@ -1,7 +1,6 @@
-use Rattle.std.proofs.Common.{◌≡◌, ◌<◌, true, map, length, ap, refl, arith}
+use Rattle.std.proofs.Common.{◌≡◌, ◌<◌, true, map, length, ap, arith}
 use Rattle.std.proofs.lemmas.List.{get_or_default, length-map}
-use Rattle.def_layout.specs.{declared.tmesh.SideArc.SideArc, Arcs.path, Arcs.long_at, Gluings.Slot, Layouts.gluing_of}
-use Rattle.def_layout.specs.{Layouts.layout_of, Layouts.side_at}
+use Rattle.def_layout.specs.{declared.tmesh.SideArc.SideArc, Arcs.path, Gluings.Slot, Layouts.layout_of}
 use Rattle.{def_cut.specs.Grids.rectangle, qm_layoutnet.proofs.EndTables.patch_more}
 use Rattle.qm_layoutnet.proofs.build.put_all_ends.Goals as goal
 
@@ -28,6 +27,5 @@ loop-p-preserved c =
 
 pub returns : goal.returns
 returns c set begin =
-    let t = c.args.t.now in
-    let all : c.loop-p.p ≡ length t.patches.items = omega arith in
+    let all : c.loop-p.p ≡ length c.args.t.now.patches.items = omega arith in
     rw (← all) (c.loop-p.invariant.done set begin)

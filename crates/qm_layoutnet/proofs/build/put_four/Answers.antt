@@ -1,6 +1,5 @@
-use Rattle.std.proofs.{Common.rules}
-use Rattle.def_layout.specs.Gluings.{south, east, north, west}
-use Rattle.layout_laws.proofs.Uses.{read_side}
+use Rattle.{std.proofs.Common.rules, def_layout.specs.Gluings.south, def_layout.specs.Gluings.east}
+use Rattle.{def_layout.specs.Gluings.north, def_layout.specs.Gluings.west, layout_laws.proofs.Uses.read_side}
 use Rattle.qm_layoutnet.proofs.build.put_four.Goals as goal
 
 pub put_ends-requires : goal.put_ends-requires
