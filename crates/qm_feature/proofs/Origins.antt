@@ -29,13 +29,3 @@ starts_told faces starts marks none begun breaks d one two three result l s e ea
     plain : (b : Bool) → cond b true false ≡ b
     plain true = refl
     plain false = refl
-
--- A range filtered with one number more.
-pub filter_on : (p : ℕ → Bool) (n : ℕ) → p n ≡ true
-    → filter p (range_with_len 0 (n + 1)) ≡ filter p (range_with_len 0 n) ++ n ∷ []
-filter_on p n is = filter_range_more p n ∙ ap (λ (b : Bool). filter p (range_with_len 0 n) ++ cond b (n ∷ []) []) is
-
-pub filter_off : (p : ℕ → Bool) (n : ℕ) → p n ≡ false
-    → filter p (range_with_len 0 (n + 1)) ≡ filter p (range_with_len 0 n)
-filter_off p n is = filter_range_more p n ∙ (ap (λ (b : Bool). filter p (range_with_len 0 n) ++ cond b (n ∷ []) []) is
-    ∙ append-nil (filter p (range_with_len 0 n)))

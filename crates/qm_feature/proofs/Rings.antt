@@ -2,19 +2,21 @@
 -- darts goes all round.
 use Rattle.std.proofs.Common.{◌≡◌, ℕ, zero, suc, ◌+◌, ◌-◌, ◌<◌, ◌≤◌, Bool, true, false, not, List, length, get_or}
 use Rattle.std.proofs.Common.{Option, Some, None, sym, subst, ap, ◌∙◌, refl, inl, inr, arith, cond, eqb, ◌&&◌, ◌||◌, []}
-use Rattle.std.proofs.{Common.◌⊎◌, Common.min, Common.set, lemmas.Option.none-some, lemmas.Option.same_Some}
+use Rattle.std.proofs.{Common.◌⊎◌, Common.◌≢◌, Common.min, Common.set, lemmas.Option.none-some, lemmas.Option.same_Some}
 use Rattle.std.proofs.lemmas.Bool.{cases_lt, cases_order, eq-eqb, eqb-true, le-ltb, lt-ltb, and_from, and_parts}
 use Rattle.std.proofs.lemmas.Bool.{not_from_false, false≢true, true_from_ne_false, cases_eq}
+use Rattle.std.proofs.lemmas.Bool.Decides.{nat_tests}
 use Rattle.std.proofs.lemmas.List.{get_or-map, length-map, get_or-set_same, get_or-set_other, length-set}
 use Rattle.def_mesh.specs.{Faces.Faces, Manifold.IsManifold, HalfEdges.half_edges, Vertices.fan_of}
 use Rattle.def_mesh.specs.Darts.{darts, from_of, to_of, next_of, twin_of, all_darts}
 use Rattle.def_runs.specs.Runs.{AreRuns, HasDart, IsLongestRun, first_dart, follower, is_closed, is_dart, is_passed}
 use Rattle.def_runs.specs.{Runs.last_dart, Runs.nth_run, declared.RunTable.RunTable}
-use Rattle.motion_laws.proofs.Among.{among_range, any_at, any_where, range_among}
+use Rattle.motion_laws.proofs.Among.{among_range, any_at, any_where, cases_Option, range_among}
 use Rattle.qm_feature.specs.Rings.{run_at, AreLeast, AreWhole, is_home, least_at}
 use Rattle.{def_mesh.specs.Vertices.vertex_count, def_cut.specs.FullCut.is_on, def_cut.specs.Trails.IsStraight}
 use Rattle.{def_cut.specs.Traced.terrain_of, def_feature.specs.Marks.goes_round}
 use Rattle.{def_feature.specs.Marks.is_least_in_ring, motion_laws.proofs.Steps.straight_same}
+use Rattle.feature_laws.proofs.Conforming.{follows}
 use Rattle.{feature_laws.proofs.Breaks.from_fan, feature_laws.proofs.Breaks.in_fan, std.specs.Prelude.option_map}
 use Rattle.{std.specs.List.list_any, cut_laws.proofs.Pigeon.no_more, site_laws.proofs.Sites.terrain}
 use Rattle.{sum_laws.proofs.Tests.same_test, mesh_laws.proofs.Flood.all_below}
@@ -31,21 +33,11 @@ found_dart None e y = absurd (false≢true y)
 found_dart (Some x) e y = ap Some (eqb-true x e y)
 
 module _ {faces : Faces} (m : IsManifold faces) where
-  -- What follows a dart leads straight on from it.
-  follows_straight : (d e : ℕ) → follower faces d ≡ Some e → IsStraight (half_edges faces) d e
-  follows_straight d e f = by_twin (is_passed faces (to_of faces d)) (twin_of faces (next_of d)) refl f
-    where
-      by_twin : (b : Bool) (o : Option ℕ) → twin_of faces (next_of d) ≡ o → cond b (option_map next_of o) None ≡ Some e
-          → IsStraight (half_edges faces) d e
-      by_twin false o w g = absurd (none-some e g)
-      by_twin true None w g = absurd (none-some e g)
-      by_twin true (Some t) w g = (t, w, sym (same_Some (next_of t) e g))
-
   -- One dart follows one dart alone.
   one_before : (d e x : ℕ) → d < darts faces → e < darts faces → follower faces d ≡ Some x → follower faces e ≡ Some x
       → d ≡ e
-  one_before d e x ld le f g = straight_same (terrain_of faces) (terrain faces m) d e x ld le (follows_straight d x f)
-      (follows_straight e x g)
+  one_before d e x ld le f g =
+      straight_same (terrain_of faces) (terrain faces m) d e x ld le (follows faces d x f).1 (follows faces e x g).1
 
   -- Two longest runs with a dart in common have the same darts.
   module _ {p q : List ℕ} (long_p : IsLongestRun faces p) (long_q : IsLongestRun faces q) where
@@ -133,37 +125,29 @@ module _ {faces : Faces} (m : IsManifold faces) where
       ]
 
       -- A walk in a ring does not end.
-      step_on : (n x : ℕ) (o : Option ℕ) (y : ℕ) → o ≡ Some y → Goes n y
-          → elim o as (λ q. Bool) [ None ↦ false | Some e ↦ goes_round faces marks v n e ] ≡ true
-      step_on n x o y is g = rw is g
-
       pub round_all : IsRing faces table.run.items (nth_run are.lists r) marks v r → (n k : ℕ)
           → k < length (nth_run are.lists r) → goes_round faces marks v n (get_or (nth_run are.lists r) k 0) ≡ true
       round_all ring zero k h = refl
       round_all ring (suc n) k h =
           let (j, lj, f) = next_in ring.closed k h in
           let one = one_run r k l h in
-          and_from _ _ (and_from _ _ (ring.on (dart k) (long.low k h) one)
-          (not_from_false _ (le-ltb _ _ (ring.above (dart k) (long.low k h) one))))
-          (step_on n (dart k) (follower faces (dart k)) (dart j) f (round_all ring n j lj))
+          rw (f, ring.on (dart k) (long.low k h) one, le-ltb _ _ (ring.above (dart k) (long.low k h) one))
+          (round_all ring n j lj)
 
       -- What a walk of one step more says.
       walk_here : (n x : ℕ) → Goes (suc n) x → (is_on marks x ≡ true) × (v ≤ from_of faces x)
       walk_here n x g =
-          let p = and_parts (is_on marks x) _ (and_parts _ _ g).0 in (
-            p.0,
-            elim (cases_lt (from_of faces x) v)
-                [ inl less ↦ absurd (false≢true (sym (ap not (lt-ltb _ _ less)) ∙ p.1)) | inr more ↦ more ],
-          )
+          let p = and_parts (is_on marks x) _ (and_parts _ _ g).0 in
+          (p.0, grind (arith, nat_tests, p.1))
 
       walk_next : (n x : ℕ) → Goes (suc n) x → (y : ℕ) × (follower faces x ≡ Some y) × Goes n y
-      walk_next n x g = at (follower faces x) refl (and_parts _ _ g).1
-        where
-          at : (o : Option ℕ) → follower faces x ≡ o
-              → elim o as (λ q. Bool) [ None ↦ false | Some e ↦ goes_round faces marks v n e ] ≡ true → (y : ℕ)
-              × (follower faces x ≡ Some y) × Goes n y
-          at None is h = absurd (false≢true h)
-          at (Some y) is h = (y, is, h)
+      walk_next n x g =
+          let on : elim (follower faces x) as (λ q. Bool) [ None ↦ false | Some e ↦ goes_round faces marks v n e ]
+          ≡ true = (and_parts _ _ g).1 in
+          elim (cases_Option (follower faces x)) [
+            | inl none ↦ absurd (false≢true (rw none at on))
+            | inr (y, is) ↦ (y, is, rw is at on)
+          ]
 
       -- A walk from place p goes along the run.
       along : (n p q k w : ℕ) → p + n ≡ q → w ≡ n + k → q < length run → Goes w (dart p) → Goes k (dart q)
@@ -177,11 +161,9 @@ module _ {faces : Faces} (m : IsManifold faces) where
 
       -- The run is no longer than the mesh.
       few : length run ≤ darts faces
-      few = no_more (length run) (darts faces) dart (λ i. i) (λ i j li lj e. elim (cases_order i j) [
-        | inl s ↦ s
-        | inr (inl less) ↦ absurd (long.differ i j less lj e)
-        | inr (inr more) ↦ absurd (long.differ j i more li (sym e))
-      ]) (λ i h. (dart i, long.low i h, refl))
+      few = no_more (length run) (darts faces) dart (λ i. i)
+          (λ i j li lj e. grind (arith, cases_order i j, long.differ i j, long.differ j i))
+          (λ i h. (dart i, long.low i h, refl))
 
       -- A walk of as many darts as there are goes all round.
       module _ (p : ℕ) (h : p < length (nth_run are.lists r))
@@ -219,10 +201,7 @@ module _ {faces : Faces} (m : IsManifold faces) where
         ]
 
         of_dart : (d : ℕ) → d < darts faces → run_of d ≡ r → (is_on marks d ≡ true) × (v ≤ from_of faces d)
-        of_dart d low e =
-            let place = subst (λ (x : ℕ). place_of d < length (nth_run are.lists x)) e (are.at_low d low) in
-            let stands = ap (λ x. get_or (nth_run are.lists x) (place_of d) 0) (sym e) ∙ are.stands d low in
-            subst (λ (x : ℕ). (is_on marks x ≡ true) × (v ≤ from_of faces x)) stands (each (place_of d) place)
+        of_dart d low e = rw (← are.stands d low, e) (each (place_of d) (rw e at (are.at_low d low)))
 
         pub all_round : IsRing faces table.run.items (nth_run are.lists r) marks v r
         all_round = record {
@@ -312,44 +291,32 @@ rings_told {faces} m {table} are rings1 rings v r1 r2 r3 o wholes w leasts e lon
 pub least_more : {faces : Faces} {run least new : List ℕ} {none n : ℕ} → AreLeast faces run least none n
     → run_at run n < length least → from_of faces n ≤ none → new ≡ set least (run_at run n)
     (min (least_at least (run_at run n)) (from_of faces n)) → AreLeast faces run new none (n + 1)
-least_more {faces} {run} {least} {new} {none} {n} a low less is = rw is (record { below = below; there = there })
+least_more {faces} {run} {least} {new} {none} {n} a low less is = record { below = below; there = there }
   where
-    here : least_at (set least (run_at run n) (min (least_at least (run_at run n)) (from_of faces n))) (run_at run n)
-        ≡ min (least_at least (run_at run n)) (from_of faces n)
-    here = get_or-set_same least (run_at run n) (min (least_at least (run_at run n)) (from_of faces n)) 0 low
+    here : least_at new (run_at run n) ≡ min (least_at least (run_at run n)) (from_of faces n)
+    here = rw is (get_or-set_same least (run_at run n) _ 0 low)
 
-    other : (r : ℕ) → (r ≡ run_at run n → ⊥)
-        → least_at (set least (run_at run n) (min (least_at least (run_at run n)) (from_of faces n))) r ≡ least_at least
-        r
-    other r ne = get_or-set_other least (run_at run n) r (min (least_at least (run_at run n)) (from_of faces n)) 0 ne
+    other : (r : ℕ) → r ≢ run_at run n → least_at new r ≡ least_at least r
+    other r ne = rw is (get_or-set_other least (run_at run n) r _ 0 ne)
 
-    below : (d : ℕ) → d < n + 1 → least_at
-        (set least (run_at run n) (min (least_at least (run_at run n)) (from_of faces n))) (run_at run d) ≤ from_of
-        faces d
-    below d l = elim (cases_eq d n) [
-      | inl e ↦ rw (e, here) (omega arith)
-      | inr ne ↦ elim (cases_eq (run_at run d) (run_at run n)) [
-        | inl e ↦ rw (e, here) (omega (arith, a.below d (omega arith), ap (least_at least) e))
-        | inr far ↦ rw (other (run_at run d) far) (a.below d (omega arith))
-      ]
-    ]
+    below : (d : ℕ) → d < n + 1 → least_at new (run_at run d) ≤ from_of faces d
+    below d l =
+        grind (arith, cases_eq d n, cases_eq (run_at run d) (run_at run n), here, other (run_at run d), a.below d)
 
-    there : (r : ℕ) → r < length (set least (run_at run n) (min (least_at least (run_at run n)) (from_of faces n)))
-        → (least_at (set least (run_at run n) (min (least_at least (run_at run n)) (from_of faces n))) r ≡ none)
-        ⊎ ((d : ℕ) × (d < n + 1) × (run_at run d ≡ r)
-        × (from_of faces d ≡ least_at (set least (run_at run n) (min (least_at least (run_at run n)) (from_of faces n)))
-        r))
+    there : (r : ℕ) → r < length new → (least_at new r ≡ none)
+        ⊎ ((d : ℕ) × (d < n + 1) × (run_at run d ≡ r) × (from_of faces d ≡ least_at new r))
     there r l =
-        let old = a.there r
-        (omega (arith, l, length-set least (run_at run n) (min (least_at least (run_at run n)) (from_of faces n)))) in
+        let old = a.there r (omega (arith, ap length is, length-set least (run_at run n))) in
         elim (cases_eq r (run_at run n)) [
-          | inl e ↦ rw (e, here) (elim (rw e at old) [
-            | inl far ↦ inr (n, omega arith, refl, omega (arith, far, less))
-            | inr (d, h, at, from) ↦ elim (cases_lt (from_of faces n) (least_at least (run_at run n))) [
-              | inl lower ↦ inr (n, omega arith, refl, omega (arith, lower))
-              | inr more ↦ inr (d, omega arith, at, omega (arith, from, more))
-            ]
-          ])
+          | inl e ↦
+              let now : least_at new r ≡ min (least_at least r) (from_of faces n) = rw e here in
+              elim old [
+                | inl far ↦ inr (n, omega arith, sym e, omega arith)
+                | inr (d, h, at, from) ↦ elim (cases_lt (from_of faces n) (least_at least r)) [
+                  | inl lower ↦ inr (n, omega arith, sym e, omega arith)
+                  | inr more ↦ inr (d, omega arith, at, omega arith)
+                ]
+              ]
           | inr ne ↦ rw (other r ne) (elim old [
             | inl e ↦ inl e
             | inr (d, h, at, from) ↦ inr (d, omega arith, at, from)

@@ -22,12 +22,9 @@ returns c =
     let sources : c.deref-4.result.now ≡ c.mark_starts.new.begun = c.deref-4.ensures.value ∙ with_items_is
     c.in_ok-sources.sources c.mark_starts.new.begun (c.mark_starts.auto.begun ∙ c.deref_mut.ensures.len) in
     let told : (d : ℕ) → is_on c.deref-4.result.now d ≡ cond (is_among d c.deref-3.result.now) true
-    (is_on c.args.marks.now d) = λ d. ap (λ (xs : List Bool). is_on xs d) sources
-    ∙ (c.mark_starts.ensures d ∙ ap (λ (xs : List Bool). cond (is_among d c.deref-3.result.now) true (is_on xs d))
-    items) in
+    (is_on c.args.marks.now d) = λ d. rw (sources, ← items) (c.mark_starts.ensures d) in
     let led : AreLed c.args.mesh.now c.deref-4.result.now c.deref-5.result.now (darts c.args.mesh.now) =
-    subst (λ (xs : List Bool). AreLed c.args.mesh.now c.deref-4.result.now xs (darts c.args.mesh.now))
-    (sym c.deref-5.ensures.value) c.in_ok-led.ensures in
+    rw c.deref-5.ensures.value c.in_ok-led.ensures in
     IfOk-weaker c.edges.result _ _ (λ cut is. conforms c.args.mesh.now c.faces-known.ensures.mesh.manifold
     c.args.marks.now c.deref-3.result.now c.deref-4.result.now c.deref-5.result.now cut.items starts told led is)
     c.edges.ensures

@@ -5,7 +5,8 @@ use Rattle.std.proofs.lemmas.List.FromFn.{length-range_with_len}
 use Rattle.def_feature.specs.{Marked.is_origin, Marks.is_break}
 use Rattle.def_mesh.specs.{Darts.darts, Vertices.all_vertices, Vertices.vertex_count}
 use Rattle.qm_feature.proofs.tracing.marked_starts.Goals.{then-starts_at+in_ok-push, else-starts_at}
-use Rattle.qm_feature.proofs.Origins.{filter_off, filter_on, starts_told}
+use Rattle.{qm_feature.proofs.Origins.starts_told, list_laws.proofs.Filters.filter_range_more}
+use Rattle.std.proofs.{Common.ℕ, lemmas.List.append-nil}
 use Rattle.{def_cut.specs.FullCut.is_on, def_cut.specs.Motion.is_among, site_laws.proofs.Sites.started}
 use Rattle.qm_feature.proofs.tracing.marked_starts.Goals as goal
 
@@ -41,11 +42,10 @@ loop-d-preserved c =
       ap length (c.deref_mut.ensures.value ∙ items),
       length-replicate (darts c.args.mesh.now) false,
     )))) c.leaves_break.ensures refl c.starts_at.ensures in
+    let is_start : ℕ → Bool = λ d. is_origin c.args.mesh.now c.args.marks.now d && not (is_on c.args.marks.now d) in
+    let more = filter_range_more is_start c.loop-d.d in
     elim c.if-starts_at.branch [
-      | then-starts_at+in_ok-push w ↦ rw (w.found-is, w.in_ok-push.ensures.items) (ap (λ xs. xs ++ c.loop-d.d ∷ [])
-          c.loop-d.invariant ∙ sym (filter_on (λ d. is_origin c.args.mesh.now c.args.marks.now d && not
-          (is_on c.args.marks.now d)) c.loop-d.d (sym t ∙ w.if-starts_at.true)))
-      | else-starts_at w ↦ rw w.found-is
-          (c.loop-d.invariant ∙ sym (filter_off (λ d. is_origin c.args.mesh.now c.args.marks.now d && not
-          (is_on c.args.marks.now d)) c.loop-d.d (sym t ∙ w.if-starts_at.false)))
+      | then-starts_at+in_ok-push w ↦
+          rw (w.found-is, w.in_ok-push.ensures.items, more, sym t ∙ w.if-starts_at.true, c.loop-d.invariant) refl
+      | else-starts_at w ↦ rw (w.found-is, more, sym t ∙ w.if-starts_at.false, append-nil) c.loop-d.invariant
     ]
