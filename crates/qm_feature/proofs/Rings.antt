@@ -1,31 +1,27 @@
 -- Closed runs whose edges are all marked, told by the runs of a mesh: a walk straight on that is as long as there are
 -- darts goes all round.
-use Rattle.std.proofs.Common.{◌≡◌, ℕ, zero, suc, ◌+◌, ◌-◌, ◌<◌, ◌≤◌, Bool, true, false, not, List, length, get_or}
-use Rattle.std.proofs.Common.{Option, Some, None, sym, subst, ap, ◌∙◌, refl, inl, inr, arith, cond, eqb, ◌&&◌, ◌||◌, []}
-use Rattle.std.proofs.{Common.◌⊎◌, Common.◌≢◌, Common.min, Common.set, lemmas.Option.none-some, lemmas.Option.same_Some}
-use Rattle.std.proofs.lemmas.Bool.{cases_lt, cases_order, eq-eqb, eqb-true, le-ltb, lt-ltb, and_from, and_parts}
-use Rattle.std.proofs.lemmas.Bool.{not_from_false, false≢true, true_from_ne_false, cases_eq}
-use Rattle.std.proofs.lemmas.Bool.Decides.{nat_tests}
+use Rattle.std.proofs.Common.{◌≡◌, ℕ, zero, suc, ◌+◌, ◌-◌, ◌<◌, ◌≤◌, Bool, true, false, List, length, get_or, Option}
+use Rattle.std.proofs.Common.{Some, None, sym, ap, ◌∙◌, refl, inl, inr, arith, eqb, ◌&&◌, rules, ◌⊎◌, ◌≢◌, min, set}
+use Rattle.std.proofs.lemmas.Option.{same_Some}
+use Rattle.std.proofs.lemmas.Bool.{cases_lt, cases_order, eq-eqb, eqb-true, le-ltb, and_from, and_parts, false≢true}
+use Rattle.std.proofs.lemmas.Bool.{true_from_ne_false, cases_eq, Decides.nat_tests}
 use Rattle.std.proofs.lemmas.List.{get_or-map, length-map, get_or-set_same, get_or-set_other, length-set}
-use Rattle.def_mesh.specs.{Faces.Faces, Manifold.IsManifold, HalfEdges.half_edges, Vertices.fan_of}
-use Rattle.def_mesh.specs.Darts.{darts, from_of, to_of, next_of, twin_of, all_darts}
-use Rattle.def_runs.specs.Runs.{AreRuns, HasDart, IsLongestRun, first_dart, follower, is_closed, is_dart, is_passed}
-use Rattle.def_runs.specs.{Runs.last_dart, Runs.nth_run, declared.RunTable.RunTable}
+use Rattle.{std.specs.List.list_any, def_mesh.specs.Faces.Faces, def_mesh.specs.Manifold.IsManifold}
+use Rattle.def_mesh.specs.{Vertices.fan_of, Vertices.vertex_count, Darts.darts, Darts.from_of, Darts.all_darts}
+use Rattle.def_runs.specs.Runs.{AreRuns, HasDart, IsLongestRun, first_dart, follower, is_closed, is_dart, last_dart}
+use Rattle.def_runs.specs.{Runs.nth_run, declared.RunTable.RunTable}
 use Rattle.motion_laws.proofs.Among.{among_range, any_at, any_where, cases_Option, range_among}
+use Rattle.motion_laws.proofs.Steps.{straight_same}
 use Rattle.qm_feature.specs.Rings.{run_at, AreLeast, AreWhole, is_home, least_at}
-use Rattle.{def_mesh.specs.Vertices.vertex_count, def_cut.specs.FullCut.is_on, def_cut.specs.Trails.IsStraight}
-use Rattle.{def_cut.specs.Traced.terrain_of, def_feature.specs.Marks.goes_round}
-use Rattle.{def_feature.specs.Marks.is_least_in_ring, motion_laws.proofs.Steps.straight_same}
-use Rattle.feature_laws.proofs.Conforming.{follows}
-use Rattle.{feature_laws.proofs.Breaks.from_fan, feature_laws.proofs.Breaks.in_fan, std.specs.Prelude.option_map}
-use Rattle.{std.specs.List.list_any, cut_laws.proofs.Pigeon.no_more, site_laws.proofs.Sites.terrain}
-use Rattle.{sum_laws.proofs.Tests.same_test, mesh_laws.proofs.Flood.all_below}
+use Rattle.{def_cut.specs.FullCut.is_on, def_cut.specs.Traced.terrain_of, def_feature.specs.Marks.goes_round}
+use Rattle.{def_feature.specs.Marks.is_least_in_ring, feature_laws.proofs.Conforming.follows}
+use Rattle.{feature_laws.proofs.Breaks.from_fan, feature_laws.proofs.Breaks.in_fan, cut_laws.proofs.Pigeon.no_more}
+use Rattle.{site_laws.proofs.Sites.terrain, sum_laws.proofs.Tests.same_test, mesh_laws.proofs.Flood.all_below}
 
 -- The run is closed, all its darts are marked, and none leaves a vertex below v.
 pub record IsRing (faces : Faces) (runs run : List ℕ) (marks : List Bool) (v r : ℕ) : Type 0 where
   pub closed : is_closed faces run ≡ true
-  pub on : (d : ℕ) → d < darts faces → run_at runs d ≡ r → is_on marks d ≡ true
-  pub above : (d : ℕ) → d < darts faces → run_at runs d ≡ r → v ≤ from_of faces d
+  pub each : (d : ℕ) → d < darts faces → run_at runs d ≡ r → (is_on marks d ≡ true) × (v ≤ from_of faces d)
 
 -- The dart that was found.
 found_dart : (o : Option ℕ) (e : ℕ) → is_dart o e ≡ true → o ≡ Some e
@@ -130,9 +126,8 @@ module _ {faces : Faces} (m : IsManifold faces) where
       round_all ring zero k h = refl
       round_all ring (suc n) k h =
           let (j, lj, f) = next_in ring.closed k h in
-          let one = one_run r k l h in
-          rw (f, ring.on (dart k) (long.low k h) one, le-ltb _ _ (ring.above (dart k) (long.low k h) one))
-          (round_all ring n j lj)
+          let here = ring.each (dart k) (long.low k h) (one_run r k l h) in
+          rw (f, here.0, le-ltb _ _ here.1) (round_all ring n j lj)
 
       -- What a walk of one step more says.
       walk_here : (n x : ℕ) → Goes (suc n) x → (is_on marks x ≡ true) × (v ≤ from_of faces x)
@@ -200,14 +195,10 @@ module _ {faces : Faces} (m : IsManifold faces) where
               (suc (darts faces - suc (k - p))) (darts faces) (omega (arith, more)) (omega (arith, more, lk, few)) lk g)
         ]
 
-        of_dart : (d : ℕ) → d < darts faces → run_of d ≡ r → (is_on marks d ≡ true) × (v ≤ from_of faces d)
-        of_dart d low e = rw (← are.stands d low, e) (each (place_of d) (rw e at (are.at_low d low)))
-
         pub all_round : IsRing faces table.run.items (nth_run are.lists r) marks v r
         all_round = record {
           closed = ap (λ o. is_dart o (first_dart run)) end.1 ∙ eq-eqb end.0 (first_dart run) first;
-          on = λ d low e. (of_dart d low e).0;
-          above = λ d low e. (of_dart d low e).1;
+          each = λ d low e. rw (← are.stands d low, e) (each (place_of d) (rw e at (are.at_low d low)));
         }
 
 -- The tables of runs tell the least vertices of closed runs whose edges are all marked.
@@ -220,7 +211,7 @@ module _ {faces : Faces} (m : IsManifold faces) {table : RunTable} (are : AreRun
   many = ap length are.closes ∙ length-map are.lists (is_closed faces)
 
   closed_is : (r : ℕ) → r < length are.lists → is_on table.closed.items r ≡ is_closed faces (nth_run are.lists r)
-  closed_is r l = ap (λ (xs : List Bool). is_on xs r) are.closes ∙ get_or-map (is_closed faces) are.lists r [] false l
+  closed_is r l = search (rules, are.closes, get_or-map)
 
   abbrev its_run : (d : ℕ) → ℕ
   its_run d = run_at table.run.items d
@@ -238,18 +229,20 @@ module _ {faces : Faces} (m : IsManifold faces) {table : RunTable} (are : AreRun
       let p = and_parts (is_on whole (its_run d)) (eqb (least_at least (its_run d)) (from_of faces d)) h in
       record {
         closed = sym (closed_is (its_run d) (are.run_low d l)) ∙ wholes.kept (its_run d) p.0;
-        on = λ e le er. true_from_ne_false (is_on marks e)
-            (λ off. false≢true (sym (wholes.off e le off) ∙ (ap (is_on whole) er ∙ p.0)));
-        above = λ e le er. omega (arith, leasts.below e le, ap (least_at least) er, eqb-true _ _ p.1);
+        each = λ e le er. (
+          true_from_ne_false (is_on marks e)
+              (λ off. false≢true (sym (wholes.off e le off) ∙ (ap (is_on whole) er ∙ p.0))),
+          omega (arith, leasts.below e le, ap (least_at least) er, eqb-true _ _ p.1),
+        );
       }
 
   -- and the other way round.
   home_of : (d : ℕ) → d < darts faces → IsRingOf d → home d ≡ true
   home_of d l ring = and_from _ _
-      (wholes.on (its_run d) (closed_is (its_run d) (are.run_low d l) ∙ ring.closed) (λ e le er. ring.on e le er))
+      (wholes.on (its_run d) (closed_is (its_run d) (are.run_low d l) ∙ ring.closed) (λ e le er. (ring.each e le er).0))
       (eq-eqb _ _ (elim (leasts.there (its_run d) (omega (arith, are.run_low d l, many, long))) [
         | inl e ↦ absurd (omega (arith, e, leasts.below d l, all_below faces d l, far))
-        | inr (e, le, er, fe) ↦ omega (arith, fe, ring.above e le er, leasts.below d l)
+        | inr (e, le, er, fe) ↦ omega (arith, fe, ring.each e le er, leasts.below d l)
       ]))
 
   pub rings_are : (v : ℕ) → list_any (λ d. eqb (from_of faces d) v && is_home faces table.run.items whole least d)
@@ -263,28 +256,14 @@ module _ {faces : Faces} (m : IsManifold faces) {table : RunTable} (are : AreRun
       let g = round_all m are marks (from_of faces d) (its_run d) (are.run_low d l) (ring_of d l p.1) (darts faces)
       (get_or table.at.items d 0) (are.at_low d l) in
       any_at (goes_round faces marks v (darts faces)) d (fan_of faces v) (in_fan faces v d l at)
-      (ap (λ u. goes_round faces marks u (darts faces) d) (sym at)
-      ∙ (ap (goes_round faces marks (from_of faces d) (darts faces)) (sym (are.stands d l)) ∙ g)))
+      (rw (are.stands d l, at) at g))
       (λ y. let (d, n, g) = any_where (goes_round faces marks v (darts faces)) (fan_of faces v) y in
       let (l, at) = from_fan faces v d n in
       let ring = all_round m are marks v (its_run d) (are.run_low d l) (get_or table.at.items d 0) (are.at_low d l)
       (ap (goes_round faces marks v (darts faces)) (are.stands d l) ∙ g) in
       any_at (λ x. eqb (from_of faces x) v && home x) d (all_darts faces)
       (among_range 0 (darts faces) d (omega arith) (omega (arith, l)))
-      (and_from _ _ (eq-eqb _ _ at) (home_of d l (subst (λ (u : ℕ). IsRing faces table.run.items
-      (nth_run are.lists (its_run d)) marks u (its_run d)) (sym at) ring))))
-
--- The same of the tables as the calls hand them on.
-pub rings_told : {faces : Faces} (m : IsManifold faces) {table : RunTable} (are : AreRuns faces table)
-    {marks : List Bool} {run1 run2 run3 : List ℕ} {old whole1 whole : List Bool} {least1 least : List ℕ}
-    (rings1 rings : List Bool) {none : ℕ} (v : ℕ) → run1 ≡ table.run.items → run2 ≡ table.run.items
-    → run3 ≡ table.run.items → old ≡ table.closed.items → AreWhole marks run1 old whole1 (length run1) → whole ≡ whole1
-    → AreLeast faces run2 least1 none (length run2) → least ≡ least1 → length least1 ≡ length table.closed.items
-    → vertex_count faces ≤ none → is_on rings1 v ≡ false
-    → is_on rings v ≡ (is_on rings1 v || list_any (λ d. eqb (from_of faces d) v && is_home faces run3 whole least d)
-    (all_darts faces)) → is_on rings v ≡ is_least_in_ring faces marks v
-rings_told {faces} m {table} are rings1 rings v r1 r2 r3 o wholes w leasts e long far off is = is ∙ rw (off, r3, w, e)
-    (rings_are m are (rw (r1, o, are.run_long) at wholes) (rw (r2, are.run_long) at leasts) long far v)
+      (and_from _ _ (eq-eqb _ _ at) (home_of d l (rw at ring))))
 
 -- One dart more in the tables of runs.
 
@@ -310,15 +289,12 @@ least_more {faces} {run} {least} {new} {none} {n} a low less is = record { below
         elim (cases_eq r (run_at run n)) [
           | inl e ↦
               let now : least_at new r ≡ min (least_at least r) (from_of faces n) = rw e here in
-              elim old [
-                | inl far ↦ inr (n, omega arith, sym e, omega arith)
-                | inr (d, h, at, from) ↦ elim (cases_lt (from_of faces n) (least_at least r)) [
-                  | inl lower ↦ inr (n, omega arith, sym e, omega arith)
-                  | inr more ↦ inr (d, omega arith, at, omega arith)
+              elim (cases_lt (from_of faces n) (least_at least r)) [
+                | inl lower ↦ inr (n, omega arith, sym e, omega arith)
+                | inr more ↦ elim old [
+                  | inl far ↦ inr (n, omega arith, sym e, omega arith)
+                  | inr (d, h, at, from) ↦ inr (d, omega arith, at, omega arith)
                 ]
               ]
-          | inr ne ↦ rw (other r ne) (elim old [
-            | inl e ↦ inl e
-            | inr (d, h, at, from) ↦ inr (d, omega arith, at, from)
-          ])
+          | inr ne ↦ rw (other r ne) (search (rules, old))
         ]

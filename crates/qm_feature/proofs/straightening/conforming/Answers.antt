@@ -1,4 +1,4 @@
-use Rattle.std.proofs.Common.{rules, ◌≡◌, ℕ, Bool, List, true, cond, length, subst, sym, ap, ◌∙◌, arith}
+use Rattle.std.proofs.Common.{rules, ◌≡◌, ℕ, true, cond, length, sym, ap, ◌∙◌, arith}
 use Rattle.{std.proofs.lemmas.List.with_items_is, std.proofs.lemmas.Result.IfOk-weaker, def_cut.specs.FullCut.is_on}
 use Rattle.{def_cut.specs.Motion.is_among, feature_laws.proofs.First.origin_of, feature_laws.proofs.Exists.conforms}
 use Rattle.{def_mesh.specs.Darts.darts, def_feature.specs.Marked.marked_starts, feature_laws.specs.Leads.AreLed}
