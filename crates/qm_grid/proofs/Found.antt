@@ -1,8 +1,8 @@
 -- The list of patches as it grows, face by face.
 use Rattle.std.proofs.Common.{rules, ◌≡◌, ◌⊎◌, ℕ, suc, ◌+◌, ◌*◌, ◌/◌, ◌%◌, ◌<◌, ◌≤◌, Bool, true, false, ◌||◌, List, []}
 use Rattle.std.proofs.Common.{◌∷◌, ◌++◌, map, length, get_or, replicate, sym, ◌∙◌, ap, refl, inl, inr, length-append}
-use Rattle.std.proofs.Common.{arith, zero, ◌-◌, subst, true≢false, append_assoc}
-use Rattle.std.proofs.lemmas.Bool.{cases_eq, cases_lt, or_cases, or_left, or_right, false≢true, cases_order}
+use Rattle.std.proofs.Common.{arith, zero, ◌-◌, append_assoc}
+use Rattle.std.proofs.lemmas.Bool.{or_cases, false≢true}
 use Rattle.std.proofs.lemmas.List.{get_or_append_left, get_or-map, length-map, length-replicate, get_or-replicate}
 use Rattle.std.proofs.{Math.Seq.get_or-append_seam, lemmas.List.FromFn.map-range_with_len_more}
 use Rattle.def_mesh.specs.{Faces.Faces, HalfEdges.HalfEdges, HalfEdges.half_edges, HalfEdges.IsQuadManifold}
@@ -15,10 +15,6 @@ use Rattle.cut_laws.proofs.OneList.{AreTiles, LiesInPatch, least_at, place_row, 
 use Rattle.qm_grid.specs.{Cells.grid_list, Cells.row_list, Heads.lies_in, Heads.IsHead}
 use Rattle.qm_grid.proofs.Laid.{grid_long, cells_low, lies_at, at_lies, linked_lies, laid_patch}
 use Rattle.{face_laws.proofs.FullCuts.same_face, def_known.specs.Cutting.IsCutting}
-
--- The face of a dart.
-abbrev pub face : ℕ → ℕ
-face d = d / 4
 
 -- The faces before n are seen, and the patches found so far hold the seen ones, in order of their least faces.
 pub record AreFoundSoFar (faces : Faces) (cut : List Bool) (n : ℕ) (seen : List Bool) (found : List Rectangle) : Type
@@ -84,18 +80,7 @@ module _ {faces : Faces} {cut : List Bool} (cutting : IsCutting faces cut) where
       (k, record { a = i; b = j; a_low = s.i_low; b_low = s.j_low; is = s.is })
 
   pub found_none : {seen : List Bool} → seen ≡ replicate (length faces) false → AreFoundSoFar faces cut 0 seen []
-  found_none e = record {
-    long = rw e (length-replicate (length faces) false);
-    done = λ g l. absurd (omega arith);
-    listed = λ g l on. absurd (false≢true (sym (get_or-replicate (length faces) g false false l) ∙ rw e at on));
-    back = λ k g l. absurd (omega arith);
-    tiles = record {
-      patch = λ p l. absurd (omega arith);
-      sized = λ p l. absurd (omega arith);
-      ordered = λ p l. absurd (omega arith);
-    };
-    below = λ k l. absurd (omega arith);
-  }
+  found_none e = rw e (search (rules, arith, length-replicate, get_or-replicate))
 
   pub found_skip : {n : ℕ} {seen : List Bool} {found : List Rectangle} → AreFoundSoFar faces cut n seen found
       → get_or seen n false ≡ true → AreFoundSoFar faces cut (n + 1) seen found
@@ -144,10 +129,8 @@ module _ {faces : Faces} {cut : List Bool} (cutting : IsCutting faces cut) where
         let low = least_low (map (λ d. d / 4) p.cells) f (omega (arith, l, long)) (λ j h.
         let lj : j < length p.cells = omega (arith, long) in
         let on = at_lies p.cells (get_or p.cells j 0 / 4) j lj refl in
-        elim (cases_lt (get_or p.cells j 0 / 4) f) [
-          | inl less ↦ absurd (fresh _ (in_range _ on) on (so.done _ less (in_range _ on)))
-          | inr from ↦ omega (arith, entry j lj)
-        ]) in
+        let there = in_range _ on in
+        omega (arith, entry j lj, λ (less : get_or p.cells j 0 / 4 < f). fresh _ there on (so.done _ less there))) in
         omega (arith, high, low, entry k l, e)
 
     was_or_is : (g : ℕ) → g < length faces → get_or new g false ≡ (get_or seen g false || lies_in p.cells g)
@@ -156,19 +139,20 @@ module _ {faces : Faces} {cut : List Bool} (cutting : IsCutting faces cut) where
     pub found_more : AreFoundSoFar faces cut (f + 1) new (found ++ p ∷ [])
     found_more = record {
       long = long ∙ so.long;
-      done = λ g l h. was_or_is g h ∙ elim (cases_eq g f) [
-        | inl e ↦ or_right (get_or seen g false) (lies_in p.cells g) (rw e own)
-        | inr ne ↦ or_left (get_or seen g false) (lies_in p.cells g) (so.done g (omega arith) h)
-      ];
+      done = λ g l h. grind (arith, was_or_is g h, own, so.done g);
       listed = λ g h on. elim (or_cases (get_or seen g false) (lies_in p.cells g) (sym (was_or_is g h) ∙ on)) [
         | inl was ↦ let (k, l, there) = so.listed g h was in
             (k, omega (arith, l, one_more found p), rw (at_front found p k l) there)
         | inr is ↦ (length found, omega (arith, one_more found p), rw (at_end found p) is)
       ];
-      back = λ k g l h on. was_or_is g h ∙ elim (front_or_end found p k l) [
-        | inl b ↦ or_left (get_or seen g false) (lies_in p.cells g) (so.back k g b h (rw (at_front found p k b) at on))
-        | inr e ↦ or_right (get_or seen g false) (lies_in p.cells g) (rw (e, at_end found p) at on)
-      ];
+      back = λ k g l h on. grind (
+        arith,
+        was_or_is g h,
+        front_or_end found p k l,
+        at_front found p k,
+        at_end found p,
+        so.back k g,
+      );
       tiles = record {
         patch = each_more (λ (r : Rectangle). IsPatch mesh (is_on cut) r.w r.h (cell_of r)) found p
             so.tiles.patch patch;
@@ -199,19 +183,14 @@ module _ {faces : Faces} {cut : List Bool} (cutting : IsCutting faces cut) where
 
 -- The walk along a row and up a grid, turn by turn.
 
--- What holds below a number and at it holds below the next.
-pub below_next : (P : ℕ → Type 0) (i : ℕ) → ((k : ℕ) → k < i → P k) → P i → (k : ℕ) → k < i + 1 → P k
-below_next P i before here k l = elim (cases_eq k i) [ inl e ↦ subst P (sym e) here | inr ne ↦ before k (omega arith) ]
-
 -- One cell more of a row.
 pub row_at : (mesh : HalfEdges) (s d e i : ℕ) → d ≡ easts mesh s i → e ≡ step_east mesh d → e ≡ easts mesh s (i + 1)
-row_at mesh s d e i at is = let n : suc i ≡ i + 1 = omega arith in is ∙ (ap (step_east mesh) at ∙ ap (easts mesh s) n)
+row_at mesh s d e i at is = let n : suc i ≡ i + 1 = omega arith in cc (ap (easts mesh s) n)
 
 pub row_listed : (mesh : HalfEdges) (s i : ℕ) (old : List ℕ) {d : ℕ} {now new : List ℕ} → d ≡ easts mesh s i
     → now ≡ old ++ row_list mesh s i → new ≡ now ++ d ∷ [] → new ≡ old ++ row_list mesh s (i + 1)
-row_listed mesh s i old {d} at listed put = put ∙ (ap (λ xs. xs ++ d ∷ []) listed
-    ∙ (append_assoc old (row_list mesh s i) (d ∷ []) ∙ ap (λ xs. old ++ xs) (ap (λ x. row_list mesh s i ++ x ∷ [])
-    at ∙ sym (map-range_with_len_more (easts mesh s) 0 i i (omega arith)))))
+row_listed mesh s i old {d} at listed put =
+    cc (append_assoc old (row_list mesh s i) (d ∷ []), map-range_with_len_more (easts mesh s) 0 i i (omega arith))
 
 module _ (mesh : HalfEdges) (laws : IsQuadManifold mesh) (cut : Cut) (full : IsCut mesh cut) where
   pub row_inside : (s d i : ℕ) → d ≡ easts mesh s i → ((k : ℕ) → k < i → cut (mesh.next (easts mesh s k)) ≡ false)
@@ -224,15 +203,12 @@ module _ (mesh : HalfEdges) (laws : IsQuadManifold mesh) (cut : Cut) (full : IsC
 
   -- Rows from one dart have one width.
   pub row_width : (s w v : ℕ) → IsRow mesh cut s w → IsRow mesh cut s v → w ≡ v
-  row_width s w v one two = elim (cases_order w v) [
-    | inl e ↦ e
-    | inr o ↦ elim o [ inl l ↦ absurd (shorter w v one two l) | inr l ↦ absurd (shorter v w two one l) ]
-  ]
+  row_width s w v one two = omega (arith, shorter w v one two, shorter v w two one)
     where
       shorter : (w v : ℕ) → IsRow mesh cut s w → IsRow mesh cut s v → w < v → ⊥
       shorter w v one two l =
           let e : suc (w - 1) ≡ w = omega (arith, one.wide) in
-          true≢false (sym (one.ends (w - 1) e) ∙ two.inside (w - 1) (omega (arith, one.wide)))
+          cc (one.ends (w - 1) e, two.inside (w - 1) (omega (arith, one.wide)))
 
   -- The rows over a row.
   pub rows_up : (s w h : ℕ) → IsRow mesh cut s w → ((k : ℕ) → k < h → cut (mesh.next (mesh.next (norths mesh s k)))
@@ -244,7 +220,7 @@ module _ (mesh : HalfEdges) (laws : IsQuadManifold mesh) (cut : Cut) (full : IsC
   pub same_width : {s d h v : ℕ} → d ≡ norths mesh s h → IsRow mesh cut d v → ((k : ℕ) → k < h
       → cut (mesh.next (mesh.next (norths mesh s k))) ≡ false) → (w : ℕ) → IsRow mesh cut s w → w ≡ v
   same_width {s} {d} {h} {v} at row before w first =
-      row_width d w v (subst (λ (x : ℕ). IsRow mesh cut x w) (sym at) (rows_up s w h first before)) row
+      row_width d w v (rw at (rows_up s w h first before)) row
 
 module _ {mesh : HalfEdges} (laws : IsQuadManifold mesh) {cut : Cut} (full : IsCut mesh cut) {s d h v : ℕ}
     (at : d ≡ norths mesh s h) (row : IsRow mesh cut d v)
@@ -254,9 +230,8 @@ module _ {mesh : HalfEdges} (laws : IsQuadManifold mesh) {cut : Cut} (full : IsC
       → new ≡ now ++ row_list mesh d v → (w : ℕ) → IsRow mesh cut s w → new ≡ grid_list mesh s w (h + 1)
   grid_listed listed put w first =
       let n : suc h ≡ h + 1 = omega arith in
-      put ∙ (ap (λ xs. xs ++ row_list mesh d v) (listed w first) ∙ (ap (λ x. grid_list mesh s w h ++ row_list mesh x v)
-      at ∙ (ap (λ x. grid_list mesh s w h ++ row_list mesh (norths mesh s h) x)
-      (sym (same_width mesh laws cut full at row before w first)) ∙ ap (grid_list mesh s w) n)))
+      let same = same_width mesh laws cut full at row before w first in
+      cc (listed w first, same, ap (grid_list mesh s w) n)
 
   -- The last one.
   pub grid_done : IsCorner mesh cut s → cut (mesh.next (mesh.next d)) ≡ true → IsGrown mesh cut s v (h + 1)
@@ -265,8 +240,7 @@ module _ {mesh : HalfEdges} (laws : IsQuadManifold mesh) {cut : Cut} (full : IsC
       record {
         wide = row.wide;
         tall = omega arith;
-        row = subst (λ (x : ℕ). IsRow mesh cut s x) (same_width mesh laws cut full at row before w g.row) g.row;
+        row = rw (same_width mesh laws cut full at row before w g.row) at g.row;
         inside = λ j l. before j (omega arith);
-        ends = λ j e. let same : j ≡ h = omega arith in ap (λ x. cut (mesh.next (mesh.next (norths mesh s x)))) same
-            ∙ (ap (λ x. cut (mesh.next (mesh.next x))) (sym at) ∙ on);
+        ends = λ j e. let same : j ≡ h = omega arith in rw (same, ← at) on;
       }

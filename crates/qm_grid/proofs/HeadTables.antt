@@ -1,13 +1,12 @@
 -- The table of heads as corners are met in increasing order.
-use Rattle.std.proofs.Common.{rules, ◌≡◌, ◌≢◌, ℕ, ◌+◌, ◌*◌, ◌/◌, ◌<◌, ◌≤◌, Bool, true, false, cond, List, length}
-use Rattle.std.proofs.Common.{get_or, sym, ◌∙◌, ap, refl, inl, inr, arith}
-use Rattle.std.proofs.lemmas.Bool.{cases_Bool, cases_eq, cases_lt, false≢true, false_from_ne_true}
-use Rattle.def_mesh.specs.{Faces.Faces, Darts.darts, HalfEdges.HalfEdges, HalfEdges.half_edges}
-use Rattle.def_cut.specs.{Cuts.IsCorner, FullCut.is_on}
-use Rattle.cut_laws.proofs.Classes.{links_join, linked_back, step_spin}
-use Rattle.qm_grid.specs.{Cells.grid_list, Heads.lies_in, Heads.AreOfOne, Heads.IsHead, Heads.AreHeadsSoFar}
-use Rattle.qm_grid.proofs.Laid.{lies_linked, linked_lies}
-use Rattle.{cut_laws.specs.Grown.IsGrown, face_laws.proofs.FullCuts.same_face, def_known.specs.Cutting.IsCutting}
+use Rattle.std.proofs.Common.{Bool, List, ap, arith, cond, get_or, inl, inr, length, refl, sym, true, ℕ, ◌*◌, ◌+◌, ◌/◌}
+use Rattle.std.proofs.{Common.◌<◌, Common.◌∙◌, Common.◌≡◌, Common.◌≢◌, Common.◌≤◌, lemmas.Bool.cases_Bool}
+use Rattle.{std.proofs.lemmas.Bool.cases_eq, std.specs.Cmp.both_ways, cut_laws.proofs.Classes.linked_back}
+use Rattle.cut_laws.{proofs.Classes.links_join, proofs.Classes.step_spin, specs.Grown.IsGrown}
+use Rattle.{def_cut.specs.Cuts.IsCorner, def_cut.specs.FullCut.is_on, def_known.specs.Cutting.IsCutting}
+use Rattle.def_mesh.specs.{Darts.darts, Faces.Faces, HalfEdges.HalfEdges, HalfEdges.half_edges}
+use Rattle.{face_laws.proofs.FullCuts.same_face, qm_grid.proofs.Laid.lies_linked, qm_grid.proofs.Laid.linked_lies}
+use Rattle.qm_grid.specs.{Cells.grid_list, Heads.AreHeadsSoFar, Heads.AreOfOne, Heads.IsHead, Heads.lies_in}
 
 module _ {faces : Faces} {cut : List Bool} (cutting : IsCutting faces cut) where
   abbrev mesh : HalfEdges
@@ -44,11 +43,8 @@ module _ {faces : Faces} {cut : List Bool} (cutting : IsCutting faces cut) where
     abbrev lies : (f : ℕ) → Bool
     lies f = lies_in (grid_list mesh d w h) f
 
-    put_on : (f : ℕ) → f < length faces → lies f ≡ true → get_or new f 0 ≡ d
-    put_on f l on = search rules
-
-    put_off : (f : ℕ) → f < length faces → lies f ≡ false → get_or new f 0 ≡ get_or heads f 0
-    put_off f l off = search rules
+    new_is : (f : ℕ) → f < length faces → get_or new f 0 ≡ cond (lies f) d (get_or heads f 0)
+    new_is f l = put f (omega (arith, so.long))
 
     linked : (f : ℕ) → lies f ≡ true → AreOfOne faces cut d (4 * f)
     linked f on = lies_linked cutting corner grown f on
@@ -58,40 +54,28 @@ module _ {faces : Faces} {cut : List Bool} (cutting : IsCutting faces cut) where
         ap (lies_in (grid_list mesh d w h)) (sym e) ∙ linked_lies cutting corner grown (4 * f) a
 
     same_lies : (f g : ℕ) → f < length faces → AreOfOne faces cut (4 * f) (4 * g) → lies f ≡ lies g
-    same_lies f g lf a = elim (cases_Bool (lies f)) [
-      | inl x ↦ x ∙ sym (there g (join d (4 * f) (4 * g) (linked f x) a))
-      | inr x ↦ x ∙ sym (false_from_ne_true (lies g) (λ y. false≢true (sym x
-          ∙ there f (join d (4 * g) (4 * f) (linked g y) (back (4 * f) (4 * g) (omega arith) a)))))
-    ]
+    same_lies f g lf a = both_ways (lies f) (lies g) (λ on. there g (join d (4 * f) (4 * g) (linked f on) a))
+        (λ on. there f (join d (4 * g) (4 * f) (linked g on) (back (4 * f) (4 * g) (omega arith) a)))
 
     pub heads_more : AreHeadsSoFar faces cut (d + 1) new
     heads_more = record {
       long = long ∙ so.long;
       right = λ f l ne. elim (cases_Bool (lies f)) [
-        | inl on ↦ rw (put_on f l on) (record {
+        | inl on ↦ rw (new_is f l, on) (record {
           corner = corner;
           linked = back d (4 * f) corner.0 (linked f on);
           -- a corner of the class before d would have given it a head
-          least = λ x a c. elim (cases_lt x d) [
-            | inl l ↦ absurd (so.first x l c (so.alike (d / 4) (x / 4) (omega (arith, corner.0)) (omega (arith, c.0))
-                (join _ x _ (join _ d _ (back d _ corner.0 (to_first d)) (join d (4 * f) x (linked f on) a))
-                (to_first x)) ∙ none))
-            | inr g ↦ g
-          ];
+          least = λ x a c.
+              let same = so.alike (d / 4) (x / 4) (omega (arith, corner.0)) (omega (arith, c.0)) (join _ x _
+              (join _ d _ (back d _ corner.0 (to_first d)) (join d (4 * f) x (linked f on) a)) (to_first x)) in
+              omega (arith, λ (l : x < d). so.first x l c (same ∙ none));
         })
-        | inr off ↦ rw (put_off f l off) (so.right f l (λ q. ne (put_off f l off ∙ q)))
+        | inr off ↦ rw (new_is f l, off) (so.right f l (λ q. ne (rw (new_is f l, off) q)))
       ];
-      alike = λ f g lf lg a. elim (cases_Bool (lies f)) [
-        | inl on ↦ put_on g lg (sym (same_lies f g lf a) ∙ on) ∙ sym (put_on f lf on)
-        | inr off ↦ put_off g lg (sym (same_lies f g lf a) ∙ off) ∙ (so.alike f g lf lg a ∙ sym (put_off f lf off))
-      ];
-      first = λ e l c q. elim (cases_Bool (lies (e / 4))) [
-        | inl on ↦ omega (arith, q, put_on (e / 4) (omega (arith, c.0)) on, cutting.long, corner.0)
-        | inr off ↦ elim (cases_eq e d) [
-          | inl s ↦ false≢true (sym off ∙ there (e / 4) (rw s (to_first d)))
-          | inr ne ↦ so.first e (omega arith) c (sym (put_off (e / 4) (omega (arith, c.0)) off) ∙ q)
-        ]
-      ];
+      alike = λ f g lf lg a. cc (new_is f lf, new_is g lg, same_lies f g lf a, so.alike f g lf lg a);
+      first = λ e l c q.
+          let is = new_is (e / 4) (omega (arith, c.0)) in
+          grind (arith, cases_eq e d, is, there (d / 4) (to_first d), so.first e, cutting.long, corner.0);
     }
 
   -- At the end each class has its head, since each has a corner.

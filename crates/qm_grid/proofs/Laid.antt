@@ -34,21 +34,13 @@ pub grid_at : (mesh : HalfEdges) (d w h i j : ℕ) → i < w → j < h → get_o
     ≡ grown mesh d i j
 grid_at mesh d w zero i j li lj = absurd (omega arith)
 grid_at mesh d w (suc h) i j li lj = elim (cases_lt j h) [
-  | inl l ↦ get_or_append_left (grid_list mesh d w h) (row_list mesh (norths mesh d h) w) 0 (j * w + i) (inner l)
-      ∙ grid_at mesh d w h i j li l
-  | inr g ↦ let e : j ≡ h = omega arith in last e
+  | inl l ↦
+      let m : suc j * w ≤ h * w = mul-le-mul_right w l in
+      get_or_append_left (grid_list mesh d w h) (row_list mesh (norths mesh d h) w) 0 (j * w + i)
+      (omega (arith, m, grid_long mesh d w h, suc-mul j w)) ∙ grid_at mesh d w h i j li l
+  | inr g ↦ let e : j ≡ h = omega arith in rw (e, ← (grid_long mesh d w h), get_or-append-add)
+      (get_or-map-range_with_len (easts mesh (norths mesh d h)) 0 w i i 0 li (omega arith))
 ]
-  where
-    inner : j < h → j * w + i < length (grid_list mesh d w h)
-    inner l = let m : suc j * w ≤ h * w = mul-le-mul_right w l in omega (arith, grid_long mesh d w h, suc-mul j w)
-
-    last : j ≡ h → get_or (grid_list mesh d w (suc h)) (j * w + i) 0 ≡ grown mesh d i j
-    last e =
-        let place : j * w + i ≡ length (grid_list mesh d w h) + i = ap (λ x. x * w + i) e
-        ∙ ap (λ x. x + i) (sym (grid_long mesh d w h)) in
-        ap (λ x. get_or (grid_list mesh d w (suc h)) x 0) place ∙ (get_or-append-add (grid_list mesh d w h)
-        (row_list mesh (norths mesh d h) w) i 0 ∙ (get_or-map-range_with_len (easts mesh (norths mesh d h)) 0 w i i 0 li
-        (omega arith) ∙ ap (λ x. easts mesh (norths mesh d x) i) (sym e)))
 
 -- Cells and faces.
 pub lies_at : (cells : List ℕ) (f : ℕ) → lies_in cells f ≡ true → (k : ℕ) × (k < length cells)

@@ -1,8 +1,7 @@
-use Rattle.std.proofs.Common.{◌≡◌, suc, ◌+◌, ap, sym, ◌∙◌, arith, false}
-use Rattle.def_mesh.specs.{Darts.next_of, Darts.prev_of, HalfEdges.half_edges}
-use Rattle.def_cut.specs.{FullCut.is_on, Steps.norths, Steps.step_north}
-use Rattle.cut_laws.proofs.Rows.{west_on, endless_north}
-use Rattle.qm_grid.proofs.Found.{below_next, grid_listed, grid_done}
+use Rattle.std.proofs.Common.{◌≡◌, suc, ◌+◌, ap, ◌∙◌, arith, false, below_more}
+use Rattle.{def_mesh.specs.Darts.next_of, def_mesh.specs.HalfEdges.half_edges, def_cut.specs.FullCut.is_on}
+use Rattle.{def_cut.specs.Steps.norths, def_cut.specs.Steps.step_north, cut_laws.proofs.Rows.west_on}
+use Rattle.{cut_laws.proofs.Rows.endless_north, qm_grid.proofs.Found.grid_listed, qm_grid.proofs.Found.grid_done}
 use Rattle.qm_grid.proofs.grid.grid.Goals as goal
 
 pub returns-then-is_cut : goal.returns-then-is_cut
@@ -22,17 +21,15 @@ loop-h-preserved c =
     let i = c.loop-h.invariant in
     let f = c.is_full.ensures in
     let mesh = half_edges c.args.cut.now.faces in
-    let cut = is_on c.args.cut.now.marks in
     let off : is_on c.args.cut.now.marks (next_of (next_of c.loop-h.start)) ≡ false =
     cc (c.next.ensures.value, c.next-in-loop-h.ensures.value, c.is_cut.ensures, c.if-is_cut.false) in
     let n : suc c.loop-h.h ≡ c.loop-h.h + 1 = omega arith in
     record {
       at = c.north-start.ensures.value ∙ (ap (step_north mesh) i.at ∙ ap (norths mesh c.args.corner) n);
       low = c.north-start.ensures.dart;
-      west = ap (λ x. cut (prev_of x)) c.north-start.ensures.value
-          ∙ west_on f.laws f.full c.loop-h.start i.low i.west off;
-      inside = below_next (λ k. cut (next_of (next_of (norths mesh c.args.corner k))) ≡ false) c.loop-h.h i.inside
-          (ap (λ x. cut (next_of (next_of x))) (sym i.at) ∙ off);
+      west = rw c.north-start.ensures.value (west_on f.laws f.full c.loop-h.start i.low i.west off);
+      inside = below_more (λ k. is_on c.args.cut.now.marks (next_of (next_of (norths mesh c.args.corner k))) ≡ false)
+          c.loop-h.h i.inside (rw (← i.at) off);
       listed = grid_listed f.laws f.full i.at c.in_ok-w.ensures.row i.inside i.listed c.in_ok-w.ensures.cells;
     }
 

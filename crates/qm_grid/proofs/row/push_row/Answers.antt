@@ -1,6 +1,4 @@
-use Rattle.std.proofs.Common.{◌≡◌, ap, sym, ◌∙◌, arith}
-use Rattle.def_mesh.specs.{Darts.next_of, HalfEdges.half_edges}
-use Rattle.def_cut.specs.{FullCut.is_on, Steps.easts}
+use Rattle.{std.proofs.Common.◌≡◌, std.proofs.Common.arith, def_mesh.specs.HalfEdges.half_edges}
 use Rattle.qm_grid.proofs.Found.{row_at, row_listed, row_inside, row_never}
 use Rattle.qm_grid.proofs.row.push_row.Goals as goal
 
@@ -14,9 +12,7 @@ returns-then-is_cut c =
         inside = λ k l. i.inside k (omega arith);
         ends = λ k e.
             let same : k ≡ c.loop-i.i = omega arith in
-            ap (λ x. is_on c.args.cut.now.marks (next_of (easts (half_edges c.args.cut.now.faces) c.args.start x))) same
-            ∙ (ap (λ x. is_on c.args.cut.now.marks (next_of x)) (sym i.at)
-            ∙ cc (c.next.ensures.value, c.is_cut.ensures, c.if-is_cut.true));
+            cc (same, i.at, c.next.ensures.value, c.is_cut.ensures, c.if-is_cut.true);
       };
       cells = row_listed (half_edges c.args.cut.now.faces) c.args.start c.loop-i.i c.args.cells.now.items i.at i.listed
           c.in_ok-push.ensures.items;
