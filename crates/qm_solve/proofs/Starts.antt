@@ -1,86 +1,64 @@
 -- A list that is no farther from what is wanted than the start has no great length.
-use Rattle.std.proofs.Common.{◌≡◌, ℕ, suc, ◌+◌, ◌*◌, ◌^◌, ◌<◌, ◌≤◌, ◌↔◌, true, false, not, List, length, true≢false}
-use Rattle.std.proofs.Common.{arith, pos, ◌-ℤ◌, ◌*ℤ◌, mul-add, mul_comm, mul-one, inl, inr, sym, ◌∙◌, ap, subst, None}
-use Rattle.std.proofs.Common.{zero, ◌/◌, ◌%◌, ◌&&◌, Bool, cond, mul_assoc, ◌⊎◌, leb-true, nat_le, max, [], ◌∷◌, ℤ, ◌≤ℤ◌}
-use Rattle.std.proofs.{Common.refl, Common.add-mul, lemmas.List.get_or_default, lemmas.List.length-map, lemmas.Int.ints}
-use Rattle.std.proofs.lemmas.List.Sums.{AllPass-from_list_all, list_all-from_AllPass}
-use Rattle.std.proofs.Math.Nat.{mul-le-mul_left, mul-le-mul_right, mul-le-mul}
-use Rattle.std.specs.{Prelude.slice_index, Prelude.unsigned_abs, Prelude.int_lt, List.list_all}
+use Rattle.std.proofs.Common.{◌≡◌, ℕ, suc, ◌+◌, ◌*◌, ◌^◌, ◌<◌, ◌≤◌, ◌↔◌, true, false, List, length, arith, pos, ◌-ℤ◌}
+use Rattle.std.proofs.Common.{◌*ℤ◌, mul-one, inl, inr, ◌∙◌, ap, None, zero, ◌/◌, Bool, cond, mul_assoc, max, [], ◌∷◌, ℤ}
+use Rattle.std.proofs.{Common.◌≤ℤ◌, Common.refl, Common.add-mul, lemmas.List.get_or_default}
+use Rattle.std.proofs.lemmas.{List.length-map, List.get_or-map, Int.ints, List.Sums.AllPass-from_list_all}
+use Rattle.std.proofs.{lemmas.List.Sums.list_all-from_AllPass, Math.Nat.mul-le-mul_left, Math.Nat.mul-le-mul_right}
+use Rattle.std.{proofs.Math.Nat.mul-le-mul, specs.Prelude.slice_index, specs.Prelude.unsigned_abs, specs.List.list_all}
+use Rattle.std.proofs.lemmas.Bool.{cases_lt, and_parts}
 use Rattle.def_flow.specs.Network.{Network, IsWithinBounds, arc_at, is_bounded, ends}
 use Rattle.def_flow.specs.Admissible.{AreNetLengths, IsAdmissible, arc_deviation, deviation, entries, IsBalanced}
-use Rattle.def_flow.specs.Admissible.{IsEven, is_on_side, side_sum}
-use Rattle.def_flow.specs.Descent.{IsStartOf, greatest_floor, times_old}
+use Rattle.def_flow.specs.{Admissible.IsEven, Admissible.is_on_side, Admissible.side_sum, Descent.IsStartOf}
+use Rattle.def_flow.specs.{Descent.greatest_floor, Descent.times_old, declared.net.Arc.Arc, declared.net.End.End}
 use Rattle.def_math.specs.{Counts.count, Counts.count_below, Sums.total, Sums.total_below}
 use Rattle.sum_laws.proofs.Sums.{count_below_prefix, count_below_le, count_below_times, times_sum, total_below_same}
-use Rattle.{std.proofs.lemmas.Bool.cases_lt, std.proofs.lemmas.Bool.and_parts, def_flow.specs.declared.net.Arc.Arc}
-use Rattle.{def_flow.specs.declared.net.End.End, sum_laws.proofs.Sums.total_same, table_laws.proofs.Ranges.part_low}
-use Rattle.{qm_net.proofs.Within.arc_within, qm_solve.specs.Rounds.is_near_arc}
-
--- What a factor of one or more leaves.
-factor : (w d : ℕ) → 1 ≤ w → d ≤ w * d
-factor w d some = omega (arith, mul-le-mul_right d some)
+use Rattle.{sum_laws.proofs.Sums.total_same, table_laws.proofs.Ranges.part_low, qm_net.proofs.Within.arc_within}
+use Rattle.{qm_net.proofs.Within.bounded_arc, qm_solve.specs.Rounds.is_near_arc}
 
 -- A length within reach.
 short : (q p old x far most : ℕ) → 1 ≤ q → unsigned_abs (pos q *ℤ pos x -ℤ pos (p * old)) ≤ far
     → p * old + far ≤ most * q → x ≤ most
 short q p old x far most some near room = elim (cases_lt most x) [
-  | inl l ↦ absurd (let more : q * suc most ≤ q * x = mul-le-mul_left q (omega arith) in
-      omega (arith, ints, more, mul-add q most 1, mul-one q, mul_comm most q))
+  | inl l ↦ absurd (let more : q * suc most ≤ q * x = mul-le-mul_left q (omega arith) in omega (arith, ints, more))
   | inr h ↦ h
 ]
 
-pub lengths_near : (net : Network) (start xs : List ℕ) → IsWithinBounds net → IsStartOf net start
-    → length xs ≡ length net.arcs → deviation net (entries xs) ≤ deviation net (entries start)
-    → AreNetLengths net.arcs xs
-lengths_near net start xs bounds from count nearer = record { count = count; small = small }
-  where
-    small : (k : ℕ) → k < length xs → slice_index xs k ≤ 10 ^ 12
-    small k l =
-        let a : Arc = arc_at net.arcs k in
-        let inner : k < length net.arcs = omega (arith, count) in
-        let far : ℕ = unsigned_abs (pos net.q *ℤ pos (slice_index xs k) -ℤ pos (net.p * a.old)) in
-        let part : a.weight * far ≤ deviation net (entries xs) =
-        omega (arith, part_low (λ j. arc_deviation net (arc_at net.arcs j) (entries xs j)) k (length net.arcs) inner) in
-        short net.q net.p a.old (slice_index xs k) (deviation net (entries start)) (10 ^ 12) bounds.q_low
-        (omega (arith, factor a.weight far (arc_within bounds inner).weight_low, part, nearer)) (from.near k inner)
+-- A start has lengths in range.
+pub start_lengths : (net : Network) (xs : List ℕ) → IsWithinBounds net → IsStartOf net xs → AreNetLengths net.arcs xs
+start_lengths net xs bounds from = record {
+  count = from.count;
+  small = λ k l.
+      let old = (arc_at net.arcs k).old in
+      let inner : k < length net.arcs = omega (arith, from.count) in
+      let part = part_low (λ j. arc_deviation net (arc_at net.arcs j) (entries xs j)) k (length net.arcs) inner in
+      let some = mul-le-mul_right (unsigned_abs (pos net.q *ℤ pos (slice_index xs k) -ℤ pos (net.p * old)))
+      (arc_within bounds inner).weight_low in
+      short net.q net.p old (slice_index xs k) (deviation net (entries xs)) (10 ^ 12) bounds.q_low
+      (omega (arith, some, part)) (from.near k inner);
+}
 
 -- The test of the range.
 test_is : (net : Network) (d : ℕ) (a : Arc) → (is_near_arc net (pos d) a ≡ true) ↔ (net.p * a.old + d ≤ 10 ^ 12 * net.q)
-test_is net d a = (λ on. there on, λ le. back le)
-  where
-    there : is_near_arc net (pos d) a ≡ true → net.p * a.old + d ≤ 10 ^ 12 * net.q
-    there on = elim (cases_lt (10 ^ 12 * net.q) (net.p * a.old + d)) [
-      | inl l ↦ absurd (let less : int_lt (pos (10 ^ 12) *ℤ pos net.q -ℤ pos (net.p * a.old)) (pos d) ≡ true =
-          grind (arith, ints) in true≢false (sym on ∙ ap not less))
-      | inr h ↦ h
-    ]
-
-    back : net.p * a.old + d ≤ 10 ^ 12 * net.q → is_near_arc net (pos d) a ≡ true
-    back le = let off : int_lt (pos (10 ^ 12) *ℤ pos net.q -ℤ pos (net.p * a.old)) (pos d) ≡ false =
-        grind (arith, ints) in ap not off
+test_is net d a = (λ on. grind (arith, ints), λ le. grind (arith, ints))
 
 abbrev no_arc : Arc
 no_arc = record { left = record { node = 0; plus = true }; right = None; old = 0; weight = 0; floor = 0 }
 
-pub near_is : (net : Network) (xs : List ℕ) → IsWithinBounds net → AreNetLengths net.arcs xs
-    → IsAdmissible net (entries xs) → (list_all (is_near_arc net (pos (deviation net (entries xs)))) net.arcs ≡ true) ↔
-    IsStartOf net xs
-near_is net xs bounds lengths admissible = (
-  λ on. record {
-    count = lengths.count;
-    admissible = admissible;
-    near = λ k l. (test_is net (deviation net (entries xs)) (arc_at net.arcs k)).0
-        (AllPass-from_list_all (is_near_arc net (pos (deviation net (entries xs)))) net.arcs on k _ l);
-  },
-  λ from. list_all-from_AllPass (is_near_arc net (pos (deviation net (entries xs)))) net.arcs
-      (λ k d l. subst (λ (a : Arc). is_near_arc net (pos (deviation net (entries xs))) a ≡ true)
-      (sym (get_or_default net.arcs k d no_arc l)) ((test_is net (deviation net (entries xs)) (arc_at net.arcs k)).1
-      (from.near k l))),
-)
-
--- A start has lengths in range.
-pub start_lengths : (net : Network) (xs : List ℕ) → IsWithinBounds net → IsStartOf net xs → AreNetLengths net.arcs xs
-start_lengths net xs bounds from = lengths_near net xs xs bounds from from.count (omega arith)
+pub near_is : (net : Network) (xs : List ℕ) {far : ℤ} {test : Bool} → test ≡ list_all (is_near_arc net far) net.arcs
+    → far ≡ pos (deviation net (entries xs)) → AreNetLengths net.arcs xs → IsAdmissible net (entries xs)
+    → (test ≡ true) ↔ IsStartOf net xs
+near_is net xs told same lengths admissible =
+    let off = deviation net (entries xs) in
+    rw (told, same) (
+      λ on. record {
+        count = lengths.count;
+        admissible = admissible;
+        near = λ k l. (test_is net off (arc_at net.arcs k)).0
+            (AllPass-from_list_all (is_near_arc net (pos off)) net.arcs on k _ l);
+      },
+      λ from. list_all-from_AllPass (is_near_arc net (pos off)) net.arcs (λ k d l.
+          rw (get_or_default net.arcs k d no_arc l) ((test_is net off (arc_at net.arcs k)).1 (from.near k l))),
+    )
 
 -- A multiple of the old lengths is a start of the descent.
 
@@ -96,9 +74,7 @@ total_below_times c f (suc n) = omega (arith, ints, total_below_times c f n, tim
 -- The entries of a multiple.
 multiple_at : (c : ℕ) (arcs : List Arc) (k : ℕ) → k < length arcs → slice_index (times_old c arcs) k
     ≡ c * (arc_at arcs k).old
-multiple_at c [] k l = absurd (omega arith)
-multiple_at c (a ∷ arcs) zero l = refl
-multiple_at c (a ∷ arcs) (suc k) l = multiple_at c arcs k (omega arith)
+multiple_at c arcs k l = get_or-map (λ (a : Arc). c * a.old) arcs k no_arc 0 l
 
 -- The sides of a node have a multiple of the old sums.
 side_times : (arcs : List Arc) (c : ℕ) (plus : Bool) (v : ℕ) → side_sum arcs (entries (times_old c arcs)) plus v
@@ -111,12 +87,7 @@ side_times arcs c plus v = total_below_same _ _ (length arcs) (λ k l. total_sam
   where
     one : (k : ℕ) → k < length arcs → (e : End) → cond (is_on_side v plus e) (entries (times_old c arcs) k) (pos 0)
         ≡ pos c *ℤ cond (is_on_side v plus e) (pos (arc_at arcs k).old) (pos 0)
-    one k l e = by_test (is_on_side v plus e)
-      where
-        by_test : (b : Bool) → cond b (entries (times_old c arcs) k) (pos 0) ≡ pos c *ℤ cond b (pos (arc_at arcs k).old)
-            (pos 0)
-        by_test true = omega (arith, ints, multiple_at c arcs k l)
-        by_test false = omega (arith, ints)
+    one k l e = grind (arith, ints, multiple_at c arcs k l)
 
 -- The sum of the old lengths, by the arcs' numbers.
 old_sum : (arcs : List Arc) → count_below (λ k. (arc_at arcs k).old) (length arcs) ≡ count (λ a. a.old) arcs
@@ -171,8 +142,7 @@ multiple_starts net c bounds even high low below above = record {
         rw (multiple_at c net.arcs k l) (omega (arith, ints, some, mul-one c, high k l))
 
     balanced : IsBalanced net.arcs (entries (times_old c net.arcs))
-    balanced v = side_times net.arcs c true v
-        ∙ (ap (λ z. pos c *ℤ z) (even.balanced v) ∙ sym (side_times net.arcs c false v))
+    balanced v = cc (side_times net.arcs c true v, side_times net.arcs c false v, even.balanced v)
 
     near : (k : ℕ) → k < length net.arcs
         → net.p * (arc_at net.arcs k).old + deviation net (entries (times_old c net.arcs)) ≤ 10 ^ 12 * net.q
@@ -196,46 +166,14 @@ pub greatest_low : (nodes : ℕ) (arcs : List Arc) → list_all (is_bounded node
 greatest_low nodes [] on = omega arith
 greatest_low nodes (a ∷ arcs) on =
     let both = and_parts (is_bounded nodes a) (list_all (is_bounded nodes) arcs) on in
-    let numbers = and_parts (nat_le 1 a.weight && nat_le a.weight 1000 && nat_le a.old 4000000000 && nat_le 1 a.floor
-    && nat_le a.floor 3) _ both.0 in
-    let floor : a.floor ≤ 3 = leb-true a.floor 3 (and_parts (nat_le 1 a.weight && nat_le a.weight 1000
-    && nat_le a.old 4000000000 && nat_le 1 a.floor) _ numbers.0).1 in
-    omega (arith, floor, greatest_low nodes arcs both.1)
+    omega (arith, bounded_arc {nodes = nodes} {a = a} both.0, greatest_low nodes arcs both.1)
 
 -- The greater of the greatest floor and the whole part of the scale is such a number.
 pub even_start : (net : Network) (c : ℕ) → IsWithinBounds net → IsEven net → c ≡ max (greatest_floor net.arcs)
     (net.p / net.q) → IsStartOf net (times_old c net.arcs)
 even_start net c bounds even is =
-    multiple_starts net c bounds even (λ k l. omega (arith, is, greatest_high net.arcs k l)) (omega (
-      arith,
-      is,
-      whole,
-      bounds.p_high,
-      low,
-      some,
-    )) (omega (arith, whole, part, up)) (by_case (cases_lt floor (net.p / net.q)))
-  where
-    floor : ℕ
-    floor = greatest_floor net.arcs
-
-    low : floor ≤ 3
-    low = greatest_low net.nodes net.arcs bounds.arcs
-
-    whole : net.q * (net.p / net.q) + net.p % net.q ≡ net.p
-    whole = omega arith
-
-    part : net.p % net.q < net.q
-    part = omega (arith, bounds.q_low)
-
-    some : net.p / net.q ≤ net.q * (net.p / net.q)
-    some = omega (arith, mul-le-mul_right (net.p / net.q) bounds.q_low)
-
-    up : net.q * (net.p / net.q) ≤ net.q * c
-    up = mul-le-mul_left net.q (omega (arith, is))
-
-    by_case : (floor < net.p / net.q) ⊎ (net.p / net.q ≤ floor) → net.q * c ≤ net.p + 3 * net.q
-    by_case (inl l) = let same : c ≡ net.p / net.q = omega (arith, is) in omega (arith, ap (λ n. net.q * n) same, whole)
-    by_case (inr h) =
-        let same : c ≡ floor = omega (arith, is) in
-        let few : net.q * floor ≤ net.q * 3 = mul-le-mul_left net.q low in
-        omega (arith, ap (λ n. net.q * n) same, few)
+    let low : greatest_floor net.arcs ≤ 3 = greatest_low net.nodes net.arcs bounds.arcs in
+    let up : net.q * (net.p / net.q) ≤ net.q * c = mul-le-mul_left net.q (omega (arith, is)) in
+    multiple_starts net c bounds even (λ k l. omega (arith, is, greatest_high net.arcs k l))
+    (omega (arith, is, bounds.p_high, low)) (omega (arith, bounds.q_low, up))
+    (grind (arith, is, mul-le-mul_left net.q low))
