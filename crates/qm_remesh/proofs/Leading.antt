@@ -1,44 +1,34 @@
 -- What rounds of a layout give: lengths of the layout, certificates that are kept, and one round more.
-use Rattle.std.proofs.Common.{◌≡◌, ℕ, ◌-◌, ◌<◌, ◌≤◌, List, [], ◌∷◌, ◌++◌, length, sym, ◌∙◌, ap, subst, arith, Bool}
-use Rattle.std.proofs.{Common.refl, Common.true, Common.false, lemmas.Int.ints, lemmas.List.get_or_default}
+use Rattle.std.proofs.Common.{◌≡◌, ℕ, ◌-◌, ◌<◌, ◌≤◌, List, [], ◌∷◌, ◌++◌, length, ◌∙◌, ap, arith, refl}
+use Rattle.std.{proofs.lemmas.Int.ints, proofs.lemmas.List.get_or_default, specs.List.All}
 use Rattle.def_certtext.specs.declared.certs.Rising.TheVariants.{Rounds, Never, Third}
-use Rattle.def_certtext.specs.{declared.certs.Rise.Rise, declared.certs.Round.Round, Settings.AreInRange}
-use Rattle.def_certtext.specs.CertLines.{alone, lists_of, risen_by, used}
+use Rattle.def_certtext.specs.declared.certs.{Rise.Rise, Round.Round}
+use Rattle.def_certtext.specs.{CertLines.alone, CertLines.lists_of, CertLines.risen_by, declared.certs.Rising.Rising}
 use Rattle.def_fit.specs.Aims.{fit_settings, denominator, numerator, AreAimedNear, IsFit, IsFitFail}
-use Rattle.def_fit.specs.{declared.fit.Aim.TheVariants.Scale, declared.fit.Fit.Fit, declared.fit.Aim.Aim}
-use Rattle.def_flow.specs.{Accepted.certificate, Descent.IsSolution, declared.cert.Cert.Cert}
-use Rattle.def_flow.specs.Network.{Network, tangle_number, IsWithinBounds}
-use Rattle.def_flow.specs.declared.limits.TheConstants.{MAX_FLOOR, MAX_TANGLE}
-use Rattle.def_layoutnet.specs.{Floors.floor_of, Floors.HasFloors, LayoutNet.IsNetOf, MeshLayouts.IsSomeLayout}
-use Rattle.def_remesh.specs.{Certified.AreKept, Certified.IsCertified, NewPoints.lengths_in, Refusals.AreTooFine}
-use Rattle.def_remesh.specs.{Refusals.IsLayoutFail, Remeshed.AreCoarse, Remeshed.AreDoubled, Rises.risen_floors}
-use Rattle.def_remesh.specs.{Rises.AreNeeded, declared.tables.Tables.Tables, declared.kept.LayoutFail.LayoutFail}
-use Rattle.def_remesh.specs.Keeping.{IsKept, IsNetFor, IsNetWith}
-use Rattle.def_remesh.specs.Tasks.{given_floors, Wish, old_lengths}
+use Rattle.def_fit.specs.declared.fit.{Aim.TheVariants.Scale, Fit.Fit, Aim.Aim}
+use Rattle.def_flow.specs.{Accepted.certificate, Descent.IsSolution, declared.cert.Cert.Cert, Network.Network}
+use Rattle.def_flow.specs.declared.{limits.TheConstants.MAX_FLOOR, net.Settings.Settings}
+use Rattle.def_layoutnet.specs.Floors.{floor_of, HasFloors}
+use Rattle.def_remesh.specs.{Certified.AreKept, Certified.IsCertified, NewPoints.lengths_in, Refusals.IsLayoutFail}
+use Rattle.def_remesh.specs.{Remeshed.AreCoarse, Remeshed.AreDoubled, Rises.risen_floors, Rises.AreNeeded}
+use Rattle.def_remesh.specs.declared.{tables.Tables.Tables, kept.LayoutFail.LayoutFail}
+use Rattle.def_remesh.specs.{Keeping.IsKept, Keeping.IsNetFor, Tasks.given_floors, Tasks.Wish}
 use Rattle.remesh_laws.proofs.ReadAgain.{behind_more, led_kept, led_more, net_risen, used_behind}
-use Rattle.remesh_laws.proofs.Keeps.{are_lengths, keeps, solved}
+use Rattle.remesh_laws.{proofs.Keeps.are_lengths, proofs.Keeps.keeps, proofs.Keeps.solved, specs.Keeps.IsNumbered}
 use Rattle.qm_remesh.specs.Rounds.{room_of, IsFitNet, IsLedBy, greatest_floor}
-use Rattle.{std.specs.List.All, std.specs.Prelude.if◌then◌else◌, def_certtext.specs.declared.certs.Rising.Rising}
-use Rattle.{def_flow.specs.declared.net.Settings.Settings, qm_layoutnet.proofs.Floors.floors_even}
-use Rattle.{qm_layoutnet.proofs.Floors.risen_more, remesh_laws.specs.Keeps.floors_behind}
-use Rattle.{remesh_laws.specs.Keeps.IsNumbered, def_math.specs.Counts.count_below}
+use Rattle.qm_layoutnet.proofs.Floors.{floors_even, risen_more}
 use Rattle.{sum_laws.proofs.Sums.count_below_same, def_metric.specs.Fails.AreNear}
-use Rattle.def_layout.specs.{Lengths.AreLengths as AreArcLengths, Layouts.Layout, Layouts.gluing_of, Arcs.long_at}
+use Rattle.def_layout.specs.{Lengths.AreLengths as AreArcLengths, Layouts.Layout, Layouts.gluing_of}
 use Rattle.def_remesh.specs.declared.kept.LayoutFail.TheVariants as layouts
 use Rattle.def_metric.specs.declared.fail.SizeFail.TheVariants as sizes
 
 module _ {fit : Fit} {layout : Layout} {first net : Network} {rounds : List Round} {cert : Cert}
     (fits : IsFitNet fit layout first) (is : IsLedBy layout (fit_settings fit) first rounds net cert) where
-  -- The network with the floors that rose.
-  pub net_behind :
-      IsNetWith fits.wish layout (fit_settings fit) (floors_behind rounds (given_floors (fit_settings fit))) net
-  net_behind = is.behind fits.wish fits.for
-
   pub led_long : {xs : List ℕ} → xs ≡ cert.x.items → length xs ≡ length layout.arcs
-  led_long same = ap length same ∙ is.solved.accepted.count ∙ net_behind.is.long
+  led_long same = ap length same ∙ is.solved.accepted.count ∙ (is.behind fits.wish fits.for).is.long
 
   pub led_lengths : {xs : List ℕ} → xs ≡ cert.x.items → AreArcLengths (gluing_of layout) (lengths_in xs)
-  led_lengths {xs} same = are_lengths layout (fit_settings fit) net cert xs net_behind is.solved same
+  led_lengths {xs} same = are_lengths _ _ net cert xs (is.behind fits.wish fits.for) is.solved same
 
 module _ {wish : Wish} {layout : Layout} {settings : Settings} {first net : Network} {rounds : List Round} {cert : Cert}
     (for : IsNetFor wish layout settings first) (is : IsLedBy layout settings first rounds net cert) where
@@ -46,17 +36,10 @@ module _ {wish : Wish} {layout : Layout} {settings : Settings} {first net : Netw
   kept_risen = led_kept (IsCertified wish layout settings) layout rounds (given_floors settings) (alone (lists_of cert))
       (is.led wish for) (solved layout settings net cert (is.behind wish for) is.solved)
 
-  used_is : (used (risen_by rounds (alone (lists_of cert)))).x ≡ cert.x.items
-  used_is = cc (used_behind rounds (alone (lists_of cert)))
-
   pub keeps_risen : {xs : List ℕ} {tables : Tables} → xs ≡ cert.x.items → IsNumbered layout xs tables
       → IsKept wish layout settings Rounds (risen_by rounds (alone (lists_of cert))) tables
-  keeps_risen {xs} {tables} same =
-      keeps layout settings Rounds (risen_by rounds (alone (lists_of cert))) xs tables (same ∙ sym used_is) kept_risen
-
-  pub fine_risen : (faces : ℕ) → AreTooFine layout cert.x.items faces
-      → AreTooFine layout (used (risen_by rounds (alone (lists_of cert)))).x faces
-  fine_risen faces = subst (λ (xs : List ℕ). AreTooFine layout xs faces) (sym used_is)
+  keeps_risen {xs} {tables} same = keeps _ _ _ (risen_by rounds (alone (lists_of cert))) xs tables
+      (cc (used_behind rounds (alone (lists_of cert)))) kept_risen
 
 -- Each arc whose floor rises is one of the network.
 pub all_there : (layout : Layout) (xs : List ℕ) {rises : List Rise} {n : ℕ} → n ≡ length layout.arcs
@@ -75,50 +58,21 @@ module _ {layout : Layout} {settings : Settings} {first net next : Network} {rou
     solved = solves;
     even = λ even. floors_even net (risen_floors round.rises.items (floor_of net.arcs)) next has (is.even even);
     led = λ wish for. led_more (IsCertified wish layout settings) layout rounds round (given_floors settings)
-        (is.led wish for) (record {
-          fit = solved layout settings net round.cert (is.behind wish for) is.solved;
-          coarse = coarse;
-          doubled = doubled;
-        }) needed;
-    behind = λ wish for. rw (behind_more rounds round (given_floors settings)) (higher wish for);
+        (is.led wish for) (assumption (solved _ _ _ round.cert (is.behind wish for) is.solved)) needed;
+    behind = λ wish for. rw (behind_more rounds round (given_floors settings))
+        (net_risen layout settings round.cert.x.items _ net next (is.behind wish for) needed has);
   }
-    where
-      higher : (wish : Wish) → IsNetFor wish layout settings first → IsNetWith wish layout settings
-          (risen_floors round.rises.items (floors_behind rounds (given_floors settings))) next
-      higher wish for =
-          net_risen layout settings round.cert.x.items round.rises.items net next (is.behind wish for) needed has
 
   -- The floors are nearer to the greatest then.
   pub room_less : length net.arcs ≡ length layout.arcs → room_of next.arcs < room_of net.arcs
-  room_less long = omega (arith, old, new, less)
-    where
-      above : (a : ℕ) → a < (gluing_of layout).arcs → floor_of net.arcs a ≤ lengths_in round.cert.x.items a
-      above a low = omega (arith, ints, is.solved.accepted.admissible.high a (omega (arith, low, long)))
+  room_less long =
+      let new = count_below_same (λ a. MAX_FLOOR - floor_of next.arcs a) (λ a. MAX_FLOOR
+      - risen_floors round.rises.items (floor_of net.arcs) a) (length net.arcs) (λ a low. cc (has.arcs a low)) in
+      rw (has.long, new, long)
+      (risen_more (gluing_of layout) (lengths_in round.cert.x.items) round.rises.items needed (floor_of net.arcs)
+      (λ a low. omega (arith, ints, is.solved.accepted.admissible.high a (omega (arith, low, long)))))
 
-      less : count_below (λ a. MAX_FLOOR - risen_floors round.rises.items (floor_of net.arcs) a) (length layout.arcs)
-          < count_below (λ a. MAX_FLOOR - floor_of net.arcs a) (length layout.arcs)
-      less = risen_more (gluing_of layout) (lengths_in round.cert.x.items) round.rises.items needed (floor_of net.arcs)
-          above
-
-      old : room_of net.arcs ≡ count_below (λ a. MAX_FLOOR - floor_of net.arcs a) (length layout.arcs)
-      old = ap (count_below (λ a. MAX_FLOOR - floor_of net.arcs a)) long
-
-      new : room_of next.arcs
-          ≡ count_below (λ a. MAX_FLOOR - risen_floors round.rises.items (floor_of net.arcs) a) (length layout.arcs)
-      new = ap (count_below (λ a. MAX_FLOOR - floor_of next.arcs a)) (has.long ∙ long)
-          ∙ count_below_same (λ a. MAX_FLOOR - floor_of next.arcs a) (λ a. MAX_FLOOR - risen_floors round.rises.items
-          (floor_of net.arcs) a) (length layout.arcs) (λ a low. cc (has.arcs a (omega (arith, low, long))))
-
--- The network of a layout is one that certificates are checked by; and how floors rise.
-
-pub net_for : {layout : Layout} {settings : Settings} {auto : Bool} {net : Network} → IsSomeLayout layout
-    → AreInRange settings auto
-    → IsNetOf (gluing_of layout) (long_at layout.arcs) (long_at layout.arcs) settings (λ a. settings.floor) net
-    → IsWithinBounds net → tangle_number net ≤ MAX_TANGLE → IsNetFor old_lengths layout settings net
-net_for mesh range is bounds small =
-    record { mesh = mesh; floor = λ arc. range.floor.low; is = is; bounds = bounds; untangled = small }
-
--- They rise at once, in rounds or never.
+-- Floors rise at once, in rounds or never.
 pub never_rises : (rising : Rising) → (rising ≡ Third → ⊥) → (rising ≡ Rounds → ⊥) → rising ≡ Never
 never_rises Never third rounds = refl
 never_rises Third third rounds = absurd (third refl)
@@ -142,8 +96,4 @@ unscaled wish layout other near = (refl, refl, near)
 
 -- The greatest floor that an arc may get is no greater than any floor may be.
 pub greatest_high : {fit : Fit} → IsFit fit → greatest_floor fit ≤ MAX_FLOOR
-greatest_high {fit} is = by_test fit.auto
-  where
-    by_test : (auto : Bool) → (if auto then MAX_FLOOR else fit.floor) ≤ MAX_FLOOR
-    by_test true = omega arith
-    by_test false = is.floor.high
+greatest_high {fit} is = grind (arith, is.floor.high)

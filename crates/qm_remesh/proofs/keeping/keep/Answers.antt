@@ -1,4 +1,4 @@
-use Rattle.qm_remesh.proofs.{Leading.net_for, keeping.keep.Goals.In-Ok}
+use Rattle.qm_remesh.proofs.{keeping.keep.Goals.In-Ok}
 use Rattle.{def_flow.specs.Network.network, def_remesh.specs.Keeping.IsNetFor, def_remesh.specs.Tasks.old_lengths}
 use Rattle.qm_remesh.proofs.keeping.keep.Goals as goal
 
@@ -10,8 +10,13 @@ returns-in-Err-Tangled-clause-refused c = rw (c.in-Err-Tangled.count-is, ← c.l
     (rw c.in-Err-Tangled.field-0-is at c.in-Err-Tangled.ensures.tangled)
 
 net : (c : In-Ok) → IsNetFor old_lengths c.args.cut.now.layout c.args.terms.settings (network c.in-Ok.net)
-net c = net_for c.layout.ensures.laid.0 c.requires.settings (rw (← c.layout.ensures.layout) c.in-Ok.ensures.net)
-    c.in-Ok.ensures.bounds c.in-Ok.ensures.small
+net c = record {
+  mesh = c.layout.ensures.laid.0;
+  floor = λ arc. c.requires.settings.floor.low;
+  is = rw (← c.layout.ensures.layout) c.in-Ok.ensures.net;
+  bounds = c.in-Ok.ensures.bounds;
+  untangled = c.in-Ok.ensures.small;
+}
 
 pub keep_solved-requires-clause-net : goal.keep_solved-requires-clause-net
 keep_solved-requires-clause-net c = (old_lengths, net (goal.at.keep_solved-requires-clause-net c).In-Ok)

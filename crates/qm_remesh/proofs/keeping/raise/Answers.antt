@@ -26,29 +26,20 @@ kept : (wish : Wish) (c : In_ok-cert) → IsNetFor wish c.args.cut.now.layout c.
     (lists_of c.in_ok-cert.cert))
 kept wish c for = (
   refl,
-  record {
-    fit = solved _ _ _ c.args.first for c.requires.solved;
-    coarse = c.requires.coarse;
-    doubled = c.requires.doubled;
-  },
+  assumption (solved _ _ _ c.args.first for c.requires.solved, c.requires),
   solved _ _ _ c.in_ok-cert.cert (third_net _ _ _ _ for (has_floors _ 3 _ c.with_floor-raised.ensures))
       c.in_ok-cert.ensures,
 )
 
 pub returns-in-Ok-clause-kept : goal.returns-in-Ok-clause-kept
 returns-in-Ok-clause-kept c = λ wish for. keeps_third _ _ c.args.first c.in_ok-cert.cert _ _ c.deref.ensures.value
-    (kept wish (goal.at.returns-in-Ok-clause-kept c).In_ok-cert for) (record {
-      numbering = c.in-Ok.ensures.numbering;
-      lengths = c.in-Ok.ensures.lengths;
-      undoubled = c.in-Ok.ensures.undoubled;
-      shape = c.in-Ok.ensures.shape;
-    })
+    (kept wish (goal.at.returns-in-Ok-clause-kept c).In_ok-cert for) (assumption c.in-Ok.ensures)
 
 pub returns-in-Err-TooFine-clause-refused : goal.returns-in-Err-TooFine-clause-refused
 returns-in-Err-TooFine-clause-refused c = λ wish for. (
   kept wish (goal.at.returns-in-Err-TooFine-clause-refused c).In_ok-cert for,
-  rw c.in-Err-TooFine.faces-is (too_fine _ _ _ c.in-Err-TooFine.field-0 _ c.deref.ensures.value
-      c.in-Err-TooFine.field-0-is c.in-Err-TooFine.ensures.refused),
+  rw c.in-Err-TooFine.faces-is
+      (too_fine _ _ _ _ _ c.deref.ensures.value c.in-Err-TooFine.field-0-is c.in-Err-TooFine.ensures.refused),
 )
 
 pub unreachable-requires : goal.unreachable-requires
@@ -56,5 +47,5 @@ unreachable-requires c =
     let has = has_floors _ 3 _ c.with_floor-raised.ensures in
     let long = long_lengths _ _ _ c.in_ok-cert.cert (third_net _ _ _ _ c.requires.net.1 has) c.in_ok-cert.ensures
     (λ k l. omega (arith, floors_at (network c.args.net) (λ a. 3) (network c.with_floor-raised.result) has k l)) in
-    none_doubled c.args.cut.now.layout _ _ c.plan_over.result c.in-Err-Doubled.field-0 _ _ c.deref.ensures.value long
-    c.plan_over.ensures.safe c.in-Err-Doubled.is c.in-Err-Doubled.field-0-is
+    none_doubled c.args.cut.now.layout _ _ _ _ _ _ c.deref.ensures.value long c.plan_over.ensures.safe
+    c.in-Err-Doubled.is c.in-Err-Doubled.field-0-is

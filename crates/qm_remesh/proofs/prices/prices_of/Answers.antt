@@ -1,7 +1,7 @@
-use Rattle.std.proofs.Common.{◌≡◌, ◌+◌, ◌∷◌, ◌++◌, [], ℕ, List, below_more, ◌∙◌, arith, pos, rules, w64}
+use Rattle.std.proofs.Common.{◌≡◌, ◌+◌, ◌∷◌, ◌++◌, [], ℕ, List, ◌∙◌, arith, pos, rules, w64}
 use Rattle.std.proofs.lemmas.List.{get_or_append_left, get_or_push, length_push}
 use Rattle.def_flow.specs.Network.{arc_at, network, Network}
-use Rattle.{std.proofs.lemmas.Int.to_z-of_z, std.specs.Prelude.slice_index, std.specs.Prelude.slice_index_or}
+use Rattle.{std.proofs.lemmas.Int.to_z-of_z, std.specs.Prelude.slice_index}
 use Rattle.{std.specs.Prelude.ℤ, qm_remesh.specs.Rounds.price_at, qm_remesh.specs.Rounds.ArePrices}
 
 -- One price more.
@@ -9,9 +9,13 @@ prices_more : (net : Network) (xs : List ℕ) (n : ℕ) (prices : List ℤ) (one
     → one ≡ price_at net (arc_at net.arcs n) (slice_index xs n) → ArePrices net xs (n + 1) (prices ++ one ∷ [])
 prices_more net xs n prices one are is = record {
   long = cc (length_push prices one, are.long);
-  each = below_more (λ (k : ℕ). slice_index_or (prices ++ one ∷ []) k (pos 0) ≡ price_at net (arc_at net.arcs k)
-      (slice_index xs k)) n (λ k low. get_or_append_left prices (one ∷ []) (pos 0) k (omega (arith, low, are.long))
-      ∙ are.each k low) (get_or_push prices one (pos 0) n are.long ∙ is);
+  each = λ k low. grind (
+    arith,
+    get_or_push prices one (pos 0) n are.long,
+    get_or_append_left prices (one ∷ []) (pos 0)
+        k,
+    are.each k,
+  );
 }
 
 pub loop-k-preserved : Rattle.qm_remesh.proofs.prices.prices_of.Goals.loop-k-preserved
