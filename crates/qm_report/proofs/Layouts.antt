@@ -1,15 +1,14 @@
 -- The lines of the layout of a chosen cut.
-use Rattle.std.proofs.Common.{append-nil, ℕ, subst, arith, append_assoc, Option, ◌+◌, [], None, Bool, length, get_or}
-use Rattle.std.proofs.Common.{◌++◌, ap, List, map, ◌≡◌, ◌∙◌, ◌∷◌, ◌<◌, sym, Some, refl, ◌≤◌, filter}
-use Rattle.std.proofs.{lemmas.List.length-map, lemmas.List.get_or_default, lemmas.List.get_or-map}
-use Rattle.std.proofs.{lemmas.Grind.flat_map-append, lemmas.List.Sums.length-filter}
-use Rattle.std.proofs.{lemmas.List.Sums.count_by-le-length, lemmas.List.FromFn.length-range_with_len}
-use Rattle.std.specs.{Prelude.decimal, Prelude.slice_index, List.flat_map, List.range_with_len}
+use Rattle.std.proofs.Common.{append-nil, ℕ, arith, append_assoc, Option, ◌+◌, [], None, Bool, length, get_or, ◌++◌, ap}
+use Rattle.std.proofs.Common.{List, map, ◌≡◌, ◌∙◌, ◌∷◌, ◌<◌, sym, Some, refl, ◌≤◌, filter}
+use Rattle.std.proofs.lemmas.{List.length-map, List.get_or_default, List.get_or-map, Grind.flat_map-append}
+use Rattle.std.proofs.lemmas.List.{Sums.length-filter, Sums.count_by-le-length, FromFn.length-range_with_len}
+use Rattle.std.specs.{Prelude.decimal, List.flat_map, List.range_with_len}
 use Rattle.def_text.specs.{FaceSet.FaceSet, declared.letters.TheConstants.SPACE}
 use Rattle.def_report.specs.GraphText.{numbers_line, numbers_text}
 use Rattle.def_cuttext.specs.LayoutText.{break_line, place_in_file, whole_arc_line}
 use Rattle.def_layout.specs.{Layouts.layout_of, Layouts.Layout, Layouts.vertex_at, Arcs.path, Arcs.Path, Arcs.path_at}
-use Rattle.def_layout.specs.{declared.tmesh.TMesh.TMesh, declared.tmesh.TArc.TArc}
+use Rattle.def_layout.specs.declared.tmesh.{TMesh.TMesh, TArc.TArc}
 use Rattle.def_mesh.specs.{Darts.from_of, Darts.darts, Faces.Faces, Vertices.vertex_count, Vertices.all_vertices}
 use Rattle.{def_remesh.specs.Placings.IsMeshLayout, qm_report.proofs.Texts.behind, qm_report.specs.Words.word_of}
 use Rattle.{def_io.specs.declared.TheConstants.LINE_FEED, embedding_laws.proofs.OneLayout.in_mesh}
@@ -29,10 +28,10 @@ pub arc_is : (t : TMesh) (faces : Faces) {here : Layout} (a : ℕ) {arc : TArc} 
     → IsMeshLayout faces here → a < length here.arcs → arc ≡ get_or t.arcs.items a arc → IsArc faces here a arc
 arc_is t faces {here} a {arc} same (is, own) low got = record {
   read = read;
-  along = λ k d less. rw (get_or_default arc.darts.items k d 0 less, ← own) (subst (λ (p : Path). slice_index p.darts k
-      < darts is.faces) read ((in_mesh is.faces is.marks here is.mesh is.quads is.cut is.laid).arc_low a k low
+  along = λ k d less. rw (get_or_default arc.darts.items k d 0 less, ← own)
+      (rw read at ((in_mesh is.faces is.marks here is.mesh is.quads is.cut is.laid).arc_low a k low
       (omega (arith, less, ap (λ (p : Path). length p.darts) read))));
-  last = subst (λ (p : Path). p.last < length here.nodes) read (is.laid.last_low a low);
+  last = rw read at (is.laid.last_low a low);
 }
   where
     read : path_at here.arcs a ≡ path arc
@@ -69,9 +68,9 @@ pub arc_written : (soup : FaceSet) (kept : Option (List Bool)) (here : Layout) (
     → path_at here.arcs a ≡ path arc → numbers_line (word_of kept arc) ((a + 1) ∷ length arc.darts.items
     ∷ (along_numbers soup arc.darts.items ++ (place_in_file soup.names (vertex_at here arc.last) + 1) ∷ []))
     ≡ whole_arc_line soup kept here a
-arc_written soup None here a arc read = rw (along_names soup arc.darts.items (vertex_at here arc.last), read) refl
+arc_written soup None here a arc read = rw (along_names soup arc.darts.items (vertex_at here arc.last), read)
 arc_written soup (Some marks) here a arc read =
-    rw (along_names soup arc.darts.items (vertex_at here arc.last), read) refl
+    rw (along_names soup arc.darts.items (vertex_at here arc.last), read)
 
 -- What is read of a layout, and how many pass a filter.
 

@@ -7,11 +7,6 @@ use Rattle.{std.specs.List.flat_map, std.specs.List.range_with_len, list_laws.pr
 pub behind : (t xs ys : List ℕ) {a b : List ℕ} → a ≡ t ++ xs → b ≡ a ++ ys → b ≡ t ++ (xs ++ ys)
 behind t xs ys p q = cc (q, p, append_assoc t xs ys)
 
--- Text b is text a with a name and the digits of a number behind it.
-pub number_behind : (t xs name : List ℕ) {ds es : List ℕ} {a b : List ℕ}
-    → ds ≡ es → a ≡ t ++ xs → b ≡ a ++ name ++ ds → b ≡ t ++ (xs ++ name ++ es)
-number_behind t xs name {es = es} e p q = cc (q, e, p, append_assoc t xs name, append_assoc t (xs ++ name) es)
-
 -- A text is itself with nothing behind it.
 pub nothing_behind : (t : List ℕ) → t ≡ t ++ []
 nothing_behind t = sym (append-nil t)

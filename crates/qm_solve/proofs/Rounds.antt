@@ -14,6 +14,7 @@ use Rattle.{qm_dual.proofs.Verdicts.yes_says, qm_solve.proofs.Starts.start_lengt
 named_at : (n m i entry : ℕ) → is_up n m i entry ≡ true → entry ≤ m
 named_at n m i entry up = grind (arith, nat_tests, up)
 
+-- The entries of a dual that says yes name its sets.
 pub named_sets : (g : WeightedGraph) (d : DualLists) (sum : ℤ) → verdict g d ≡ Yes sum → AreNamed (length d.z) d.up
 named_sets g d sum said i low =
     let says = (yes_says g d sum said).0 in

@@ -44,6 +44,7 @@ test_is net d a = (λ on. grind (arith, ints), λ le. grind (arith, ints))
 abbrev no_arc : Arc
 no_arc = record { left = record { node = 0; plus = true }; right = None; old = 0; weight = 0; floor = 0 }
 
+-- A list that is lawful and passes the test may start the descent, and no other.
 pub near_is : (net : Network) (xs : List ℕ) {far : ℤ} {test : Bool} → test ≡ list_all (is_near_arc net far) net.arcs
     → far ≡ pos (deviation net (entries xs)) → AreNetLengths net.arcs xs → IsAdmissible net (entries xs)
     → (test ≡ true) ↔ IsStartOf net xs

@@ -1,5 +1,4 @@
-use Rattle.def_fit.specs.Aims.{aimed, fit_settings}
-use Rattle.def_metric.specs.declared.fail.SizeFail.TheVariants.{Layout}
+use Rattle.{def_fit.specs.Aims.aimed, def_metric.specs.declared.fail.SizeFail.TheVariants.Layout}
 use Rattle.{error_laws.proofs.Errors.handed, qm_remesh.proofs.Leading.no_mesh}
 use Rattle.qm_remesh.proofs.fitted.keep_fit.Goals as goal
 

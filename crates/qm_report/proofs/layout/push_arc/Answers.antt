@@ -1,6 +1,6 @@
-use Rattle.std.proofs.Common.{◌≡◌, ◌+◌, ℕ, List, [], ◌∷◌, ◌++◌, length, ap, ◌∙◌, arith, get_or}
+use Rattle.std.proofs.Common.{◌≡◌, ◌+◌, length, ap, ◌∙◌, arith, get_or}
 use Rattle.{std.proofs.lemmas.List.get_or_default, def_layout.specs.Layouts.vertex_at, def_layout.specs.Layouts.Layout}
-use Rattle.{std.specs.Prelude.option_copied, def_report.specs.GraphText.numbers_line}
+use Rattle.{std.specs.Prelude.option_copied}
 use Rattle.{def_cuttext.specs.LayoutText.place_in_file, qm_report.proofs.layout.push_arc.Goals.After-index-arc}
 use Rattle.qm_report.proofs.Layouts.{along_numbers, arc_is, arc_written, line_behind, IsArc}
 use Rattle.qm_report.proofs.layout.push_arc.Goals as goal
@@ -33,6 +33,5 @@ returns c =
     let line = line_behind c.arc_word-word.result.now (along_numbers cut.soup c.deref.result.now) (c.args.a + 1)
     c.len.result (c.from.result + 1) t0 c.in_ok-extend_from_slice.ensures.items c.in_ok-push_numbers.ensures
     c.in_ok-push_along.ensures c.in_ok-push_spaced.ensures c.in_ok-push.ensures.items in
-    line ∙ (λ i. t0 ++ numbers_line (c.arc_word-word.ensures i)
-    ((c.args.a + 1) ∷ many i ∷ (along_numbers cut.soup (c.deref.ensures.value i) ++ (last i + 1) ∷ [])))
-    ∙ ap (λ (xs : List ℕ). t0 ++ xs) (arc_written cut.soup (option_copied c.args.kept) cut.layout c.args.a arc is.read)
+    let written = arc_written cut.soup (option_copied c.args.kept) cut.layout c.args.a arc is.read in
+    rw (line, c.arc_word-word.ensures, many, c.deref.ensures.value, last, written)

@@ -1,8 +1,7 @@
-use Rattle.std.proofs.{Common.◌∙◌, lemmas.Int.to_z-of_z, lemmas.Bool.false≢true}
-use Rattle.def_flow.specs.{Admissible.deviation, Network.network}
-use Rattle.qm_solve.proofs.start.is_start.Goals.{then-not-are_lengths-via-then-not-are_lengths}
+use Rattle.std.proofs.{Common.◌∙◌, lemmas.Bool.false≢true, lemmas.Int.to_z-of_z}
+use Rattle.{def_flow.specs.Network.network, qm_solve.proofs.Starts.near_is, qm_solve.proofs.Starts.start_lengths}
 use Rattle.qm_solve.proofs.start.is_start.Goals.{then-not-are_lengths-via-else-not-are_lengths+then-not-admissible}
-use Rattle.qm_solve.proofs.Starts.{near_is, start_lengths}
+use Rattle.qm_solve.proofs.start.is_start.Goals.{then-not-are_lengths-via-then-not-are_lengths}
 use mir.Syntax.{w128}
 use Rattle.qm_solve.proofs.start.is_start.Goals as goal
 
