@@ -1,21 +1,15 @@
 -- Remedies along arcs and along the sides of patches, by the edges of arcs and of lines.
-use Rattle.std.proofs.Common.{rules, ◌≡◌, ◌⊎◌, ◌↔◌, ℕ, ◌-◌, ◌%◌, ◌<◌, not, List, refl, sym, ◌∙◌, ap, subst, inl, inr}
-use Rattle.def_layout.specs.{Gluings.Gluing, Lengths.Lengths, Lengths.size, Layouts.Layout, Layouts.layout_of}
-use Rattle.def_written.specs.Edges.{Edge, on_arc, flat, steep}
+use Rattle.std.proofs.Common.{rules, ◌≡◌, ◌⊎◌, ◌↔◌, ℕ, ◌-◌, ◌%◌, ◌<◌, not, refl, sym, ◌∙◌, inl, inr, arith}
+use Rattle.def_layout.specs.{Lengths.Lengths, Lengths.size, Layouts.Layout, Layouts.layout_of, Gluings.Gluing}
+use Rattle.def_written.specs.Edges.{Edge, on_arc, flat, steep, IsEdge}
+use Rattle.qm_stitch.proofs.{TightEdges.key_tells, TightEdges.line_end, TightEdges.line_some, RiseLists.remedy_in}
+use Rattle.qm_stitch.specs.{declared.priced.Priced.Priced, Tight.IsDoubled, Lengthened.gluing_in, Lengthened.lengths_by}
 use Rattle.qm_stitch.specs.Remedies.{price_along, price_of, short_price, IsAlong, IsAlongArcs, IsAlongPatches, IsByLine}
-use Rattle.qm_stitch.specs.Remedies.{IsPricedRemedy, IsRunIn, IsRunOf, IsShortRun}
-use Rattle.qm_stitch.specs.{Lengthened.gluing_in, Lengthened.lengths_by, Tight.IsDoubled, declared.priced.Priced.Priced}
-use Rattle.qm_stitch.specs.{declared.remedy.Remedy.Remedy, declared.remedy.Run.Run, declared.rim.Line.Line}
+use Rattle.qm_stitch.specs.Remedies.{IsPricedRemedy, IsRunOf, IsShortRun}
 use Rattle.qm_stitch.specs.Rims.{along_lines, key_of, line_edge, IsLine, IsRepeat}
-use Rattle.qm_stitch.specs.declared.remedy.Run.TheVariants.{Arc, Side}
-use Rattle.qm_stitch.proofs.TightEdges.{key_tells, line_end, line_parts, line_some}
-use Rattle.{std.proofs.Common.arith, def_flow.specs.declared.limits.TheConstants.MAX_FLOOR}
-use Rattle.{qm_stitch.proofs.RimEdges.line_is, qm_stitch.proofs.RiseLists.remedy_in, std.specs.Prelude.◌==◌}
-use Rattle.{std.specs.Prelude.ℤ, qm_offsets.specs.Fours.arcs_on}
-
--- A remedy of these parts.
-abbrev made : (key : ℕ) (price : ℤ) (run : Run) → Remedy
-made key price run = record { key = key; price = price; run = run }
+use Rattle.qm_stitch.specs.declared.remedy.{Run.TheVariants.Arc, Run.TheVariants.Side, Run.Run, Remedy.Remedy}
+use Rattle.{qm_stitch.proofs.RimEdges.line_is, qm_offsets.specs.Fours.arcs_on, qm_stitch.specs.declared.rim.Line.Line}
+use Rattle.{def_flow.specs.declared.limits.TheConstants.MAX_FLOOR, std.specs.Prelude.◌==◌, std.specs.Prelude.ℤ}
 
 -- The edges of a line lie along the sides of its direction, and no other edges do.
 side_run : (s : ℕ) → s < 4 → (p n k : ℕ) → IsRunOf (line_edge (s % 2 == 1) p n k) (Side p s)
@@ -41,12 +35,9 @@ module _ (priced : Priced) where
   abbrev x : Lengths
   x = lengths_by priced.keyed.numbered
 
-  abbrev keys : List ℕ
-  keys = priced.keyed.keys.now
-
   -- A remedy with a key that repeats, and one by an edge, where that is doubled.
   abbrev pub IsWith : (key : ℕ) (price : ℤ) (run : Run) (r : Remedy) → Type 0
-  IsWith key price run r = (r ≡ made key price run) × IsRepeat keys key
+  IsWith key price run r = (r ≡ record { key = key; price = price; run = run }) × IsRepeat priced.keyed.keys.now key
 
   abbrev pub IsBy : (edge : Edge) (price : ℤ) (run : Run) (r : Remedy) → Type 0
   IsBy edge price run r = IsWith (key_of l x edge) price run r
@@ -58,6 +49,17 @@ module _ (priced : Priced) where
   abbrev pub IsInLine : (p s : ℕ) (price : ℤ) (n : ℕ) (r : Remedy) → Type 0
   IsInLine p s price n r = (0 < n) × IsByLine priced (line_along p s n) price (Side p s) r
 
+  -- A remedy by an edge that is doubled: its key repeats.
+  abbrev IsOf : (e : Edge) (price : ℤ) (run : Run) (r : Remedy) → Type 0
+  IsOf e price run r = IsDoubled l x e × (r.key ≡ key_of l x e) × (r.price ≡ price) × (r.run ≡ run)
+
+  by_edge : (e : Edge) (price : ℤ) (run : Run) (r : Remedy) → IsEdge l x e → IsBy e price run r ↔ IsOf e price run r
+  by_edge e price run r is =
+      let tells = key_tells priced.keyed e is in (
+        λ (same, repeats). rw same (tells.0 repeats, refl, refl, refl),
+        λ (doubled, key, cost, along). (λ i. record { key = key i; price = cost i; run = along i }, tells.1 doubled),
+      )
+
   -- Those by the first edge of a line and by the last one are those by the line.
   module _ (line : Line) (inside : IsLine l x line) (price : ℤ) (run : Run) where
     abbrev long : ℕ
@@ -66,108 +68,80 @@ module _ (priced : Priced) where
     abbrev edge : (k : ℕ) → Edge
     edge k = line_edge line.upright line.patch line.number k
 
-    by_end : (k : ℕ) → k < long → (r : Remedy) → IsBy (edge k) price run r → IsByLine priced line price run r
-    by_end k less r (same, repeats) =
-        let is = line_is l x line.upright line.patch line.number k inside.patch inside.some inside.inside less in
-        record {
-          at = k;
-          doubled = (key_tells priced.keyed (edge k) is).0 repeats;
-          key = ap (λ (a : Remedy). a.key) same;
-          price = ap (λ (a : Remedy). a.price) same;
-          run = ap (λ (a : Remedy). a.run) same;
-        }
-
-    end_by : (k : ℕ) (r : Remedy) (by : IsByLine priced line price run r) → by.at ≡ k → IsBy (edge k) price run r
-    end_by k r by same =
-        let doubled = subst (λ (m : ℕ). IsDoubled l x (edge m)) same by.doubled in
-        let key : r.key ≡ key_of l x (edge k) = by.key ∙ ap (λ (m : ℕ). key_of l x (edge m)) same in
-        (λ i. made (key i) (by.price i) (by.run i), (key_tells priced.keyed (edge k) doubled.is).1 doubled)
-
     pub line_both : (first last : ℕ) (cost : ℤ) → first ≡ key_of l x (edge 0) → last ≡ key_of l x (edge (long - 1))
         → cost ≡ price → (r : Remedy)
         → (IsWith first cost run r ⊎ IsWith last cost run r) ↔ IsByLine priced line price run r
     line_both first last cost first_is last_is cost_is r =
         let some = line_some priced.keyed inside in
         rw (first_is, last_is, cost_is) (
-          elim [ inl by ↦ by_end 0 some r by | inr by ↦ by_end (long - 1) (omega arith) r by ],
-          λ by. elim (line_end priced.keyed line.upright line.patch line.number by.at by.doubled) [
-            | inl same ↦ inl (end_by 0 r by same)
-            | inr same ↦ inr (end_by (long - 1) r by same)
-          ],
+          elim [ inl by ↦ by_end 0 some by | inr by ↦ by_end (long - 1) (omega arith) by ],
+          λ by.
+              let back = (by_edge (edge by.at) price run r by.doubled.is).1 (by.doubled, by.key, by.price, by.run) in
+              elim (line_end priced.keyed line.upright line.patch line.number by.at by.doubled) [
+                | inl same ↦ inl (rw same at back)
+                | inr same ↦ inr (rw same at back)
+              ],
         )
+      where
+        by_end : (k : ℕ) → k < long → IsBy (edge k) price run r → IsByLine priced line price run r
+        by_end k less by =
+            let is = (line_is l x line.upright line.patch line.number k).1
+            (inside.patch, inside.some, inside.inside, less) in
+            let (doubled, key, cost, along) = (by_edge (edge k) price run r is).0 by in
+            record { at = k; doubled = doubled; key = key; price = cost; run = along }
+
+  -- Those along a short run are those by the edges along which it lies.
+  along_by : (run : Run) → IsShortRun layout x run → (r : Remedy) → IsAlong priced run r
+      ↔ ((e : Edge) × IsRunOf e run × IsOf e (price_of layout x priced.prices.now run) run r)
+  along_by run short r = (
+    λ (same, (e, by)). (e, rw same at by.run, (by.doubled, by.key, rw same at by.price, same)),
+    λ (e, of, (doubled, key, cost, same)).
+        (same, (e, rw same (record { doubled = doubled; key = key; run = of; short = short; price = cost }))),
+  )
 
   -- Those in all lines along a side are those along it.
   pub side_both : (p s lines : ℕ) (price : ℤ) → s < 4 → lines ≡ size l x p (along_lines (not (s % 2 == 1)))
       → price ≡ price_along x priced.prices.now (arcs_on layout p s) → IsShortRun layout x (Side p s)
       → (r : Remedy) → ((n : ℕ) × (n < lines) × IsInLine p s price n r) ↔ IsAlong priced (Side p s) r
-  side_both p s lines price low lines_is price_is short r = (to, of)
-    where
-      to : (n : ℕ) × (n < lines) × IsInLine p s price n r → IsAlong priced (Side p s) r
-      to (n, less, (some, by)) = search (rules, side_run)
-
-      of : IsAlong priced (Side p s) r → (n : ℕ) × (n < lines) × IsInLine p s price n r
-      of (same, (e, by)) =
-          let run = run_line e p s (subst (IsRunOf e) same by.run) in
-          let doubled = subst (IsDoubled l x) run.2 by.doubled in
-          let parts = line_parts l x (s % 2 == 1) p run.0 run.1 doubled.is in
-          let in_line : IsByLine priced (line_along p s run.0) price (Side p s) r = record {
-            at = run.1;
-            doubled = doubled;
-            key = by.key ∙ ap (key_of l x) run.2;
-            price = by.price ∙ ap (price_of layout x priced.prices.now) same ∙ sym price_is;
-            run = same;
-          } in
-          (run.0, omega arith, (parts.0, in_line))
+  side_both p s lines price low lines_is price_is short r =
+      let along = along_by (Side p s) short r in (
+        λ (n, less, (some, by)). along.1 (
+          line_edge (s % 2 == 1) p n by.at,
+          side_run s low p n by.at,
+          (by.doubled, by.key, by.price ∙ price_is, by.run),
+        ),
+        λ has.
+            let (e, of, by) = along.0 has in
+            let (n, k, is) = run_line e p s of in
+            let (doubled, key, cost, same) = rw is at by in
+            let (_, some, up, _) = (line_is l x (s % 2 == 1) p n k).0 doubled.is in
+            let cost = cost ∙ sym price_is in
+            (n, omega arith, (some, record { at = k; doubled = doubled; key = key; price = cost; run = same })),
+      )
 
   -- Those by all edges of a short arc are those along it.
   pub arc_both : (a many : ℕ) → a < l.arcs → x a < MAX_FLOOR → many ≡ x a → (r : Remedy)
       → ((k : ℕ) × (k < many) × IsBy (on_arc a k) (short_price x priced.prices.now a) (Arc a) r)
       ↔ IsAlong priced (Arc a) r
-  arc_both a many low short many_is r = (to, of)
-    where
-      price : ℤ
-      price = short_price x priced.prices.now a
-
-      to : (k : ℕ) × (k < many) × IsBy (on_arc a k) price (Arc a) r → IsAlong priced (Arc a) r
-      to (k, less, (same, repeats)) =
-          let run : r.run ≡ Arc a = ap (λ (b : Remedy). b.run) same in (
-            run,
-            (
-              on_arc a k,
-              record {
-                doubled = (key_tells priced.keyed _ (low, omega arith)).0 repeats;
-                key = ap (λ (b : Remedy). b.key) same;
-                run = run;
-                short = subst (IsShortRun layout x) (sym run) (a, refl, short);
-                price = ap (λ (b : Remedy). b.price) same ∙ ap (price_of layout x priced.prices.now) (sym run);
-              },
-            ),
-          )
-
-      of : IsAlong priced (Arc a) r → (k : ℕ) × (k < many) × IsBy (on_arc a k) price (Arc a) r
-      of (same, (e, by)) =
-          let run = run_arc e a (subst (IsRunOf e) same by.run) in
-          let doubled = subst (IsDoubled l x) run.1 by.doubled in
-          let key : r.key ≡ key_of l x (on_arc a run.0) = by.key ∙ ap (key_of l x) run.1 in
-          let cost : r.price ≡ price = by.price ∙ ap (price_of layout x priced.prices.now) same in (
-            run.0,
-            omega arith,
-            (λ i. made (key i) (cost i) (same i), (key_tells priced.keyed (on_arc a run.0) doubled.is).1 doubled),
-          )
+  arc_both a many low short many_is r =
+      let along = along_by (Arc a) (a, refl, short) r in
+      let by_key = λ (k : ℕ). by_edge (on_arc a k) (short_price x priced.prices.now a) (Arc a) r in (
+        λ (k, less, by). along.1 (on_arc a k, refl, (by_key k (low, omega arith)).0 by),
+        λ has.
+            let (e, of, by) = along.0 has in
+            let (k, is) = run_arc e a of in
+            let here = rw is at by in
+            (k, omega (arith, here.0.is.1), (by_key k here.0.is).1 here),
+      )
 
   -- Where an arc is not short, there is none along it; and where no arc on a side is, there is none along that.
   pub none_along : (run : Run) → ¬ IsShortRun layout x run → (r : Remedy) → ¬ IsAlong priced run r
-  none_along run none r (same, (e, by)) = none (subst (IsShortRun layout x) same by.short)
+  none_along run none r (same, (e, by)) = none (rw same at by.short)
 
   -- Those along all arcs and all sides are all.
   pub all_both : (arcs patches : ℕ) → arcs ≡ l.arcs → patches ≡ l.patches → (r : Remedy)
       → (IsAlongArcs priced arcs r ⊎ IsAlongPatches priced patches r) ↔ IsPricedRemedy priced r
   all_both arcs patches arcs_are patches_are r = (
     elim [ inl along ↦ along.2.1 | inr along ↦ along.2.2.1 ],
-    λ has. by_run has r.run refl (remedy_in layout x priced.prices.now r has),
+    λ has. let there = remedy_in layout x priced.prices.now r has in search rules,
   )
-    where
-      by_run : IsPricedRemedy priced r → (run : Run) → r.run ≡ run → IsRunIn layout r.run
-          → IsAlongArcs priced arcs r ⊎ IsAlongPatches priced patches r
-      by_run has (Arc a) same there = let low = subst (IsRunIn layout) same there in inl (a, omega arith, (same, has))
-      by_run has (Side p s) same there = search rules

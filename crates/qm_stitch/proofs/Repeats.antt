@@ -1,7 +1,7 @@
 -- Numbers that stand twice in a list.
 use Rattle.std.proofs.Common.{rules, ◌≡◌, ◌⊎◌, ◌↔◌, ℕ, suc, ◌+◌, ◌-◌, ◌/◌, ◌%◌, ◌^◌, ◌<◌, ◌≤◌, true, false, cond, List}
-use Rattle.std.proofs.Common.{[], ◌∷◌, length, take, drop, get_or, sym, ◌∙◌, ap, inl, inr, arith}
-use Rattle.std.proofs.lemmas.{Bool.cases_eq, Bool.cases_lt, Bool.false≢true, Bool.Decides.nat_tests}
+use Rattle.std.proofs.Common.{[], ◌∷◌, length, take, drop, get_or, sym, ◌∙◌, inl, inr, arith}
+use Rattle.std.proofs.lemmas.{Bool.cases_eq, Bool.cases_lt, Bool.eqb-true, Bool.false≢true, Bool.Decides.nat_tests}
 use Rattle.std.proofs.lemmas.List.{get_or-take, get_or-drop, get_or_default, length-take-le, length-drop}
 use Rattle.std.proofs.lemmas.List.Sums.{sum_by-cons, sum_by-take-drop, get_or-le-sum_by}
 use Rattle.std.proofs.{lemmas.List.Sorted.sum_by-IsPermutation}
@@ -15,12 +15,12 @@ hit key x = cond (x == key) 1 0
 abbrev times : (key : ℕ) (xs : List ℕ) → ℕ
 times key xs = sum_by (hit key) xs
 
-some_place : (key : ℕ) (xs : List ℕ) → 0 < times key xs → (i : ℕ) × (i < length xs) × (get_or xs i 0 ≡ key)
-some_place key [] some = absurd (omega arith)
-some_place key (x ∷ xs) some = elim (cases_eq x key) [
+some_place : (key d : ℕ) (xs : List ℕ) → 0 < times key xs → (i : ℕ) × (i < length xs) × (get_or xs i d ≡ key)
+some_place key d [] some = absurd (omega arith)
+some_place key d (x ∷ xs) some = elim (cases_eq x key) [
   | inl same ↦ (0, omega arith, same)
   | inr other ↦
-      let r = some_place key xs (grind (arith, nat_tests, sum_by-cons (hit key) x xs)) in
+      let r = some_place key d xs (grind (arith, nat_tests, sum_by-cons (hit key) x xs)) in
       (suc r.0, omega (arith, r.1), r.2)
 ]
 
@@ -28,7 +28,7 @@ two_places : (key : ℕ) (xs : List ℕ) → 2 ≤ times key xs → StandsTwice 
 two_places key [] two = absurd (omega arith)
 two_places key (x ∷ xs) two = elim (cases_eq x key) [
   | inl same ↦
-      let r = some_place key xs (grind (arith, nat_tests, sum_by-cons (hit key) x xs)) in
+      let r = some_place key 0 xs (grind (arith, nat_tests, sum_by-cons (hit key) x xs)) in
       (0, suc r.0, omega arith, omega (arith, r.1), same, r.2)
   | inr other ↦
       let r = two_places key xs (grind (arith, nat_tests, sum_by-cons (hit key) x xs)) in
@@ -36,27 +36,20 @@ two_places key (x ∷ xs) two = elim (cases_eq x key) [
 ]
 
 -- What stands at a place counts at least once.
-one_time : (key : ℕ) (xs : List ℕ) (i : ℕ) → i < length xs → get_or xs i 0 ≡ key → 1 ≤ times key xs
-one_time key xs i low at = grind (arith, nat_tests, get_or-le-sum_by (hit key) xs i 0 low)
+one_time : (key d : ℕ) (xs : List ℕ) (i : ℕ) → i < length xs → get_or xs i d ≡ key → 1 ≤ times key xs
+one_time key d xs i low at = grind (arith, nat_tests, get_or-le-sum_by (hit key) xs i d low)
 
 two_times : (key : ℕ) (xs : List ℕ) → StandsTwice xs key → 2 ≤ times key xs
 two_times key xs (i, j, less, low, at_i, at_j) =
-    let i_low = length-take-le j xs (omega (arith, low)) in
-    let here = get_or-drop j xs 0 0 ∙ ap (λ k. get_or xs k 0) (omega arith) ∙ at_j in
-    omega (
-      arith,
-      sum_by-take-drop (hit key) xs j,
-      one_time key (take j xs) i (omega (arith, less, i_low)) (get_or-take j xs i 0 less ∙ at_i),
-      one_time key (drop j xs) 0 (omega (arith, low, length-drop j xs)) here,
-    )
+    let early = one_time key 0 (take j xs) i in
+    let late = one_time key 0 (drop j xs) 0 in
+    grind (arith, length-take-le, length-drop, get_or-drop, get_or-take, sum_by-take-drop (hit key) xs j, early, late)
 
 -- What repeats in a list repeats in each list that has the same sums.
 pub repeat_moved : (xs ys : List ℕ) (key : ℕ) → ((f : ℕ → ℕ) → sum_by f ys ≡ sum_by f xs) → IsRepeat xs key
     → IsRepeat ys key
 repeat_moved xs ys key same (inl (loop, (k, low, at))) =
-    let one = one_time key xs k low (get_or_default xs k 0 key low ∙ at) in
-    let r = some_place key ys (omega (arith, same (hit key), one)) in
-    inl (loop, (r.0, r.1, get_or_default ys r.0 key 0 r.1 ∙ r.2))
+    inl (loop, some_place key key ys (omega (arith, same (hit key), one_time key key xs k low at)))
 repeat_moved xs ys key same (inr two) = inr (two_places key ys (omega (arith, two_times key xs two, same (hit key))))
 
 module _ (keys : List ℕ) (increasing : IsNonDecreasing keys) where
@@ -75,21 +68,22 @@ module _ (keys : List ℕ) (increasing : IsNonDecreasing keys) where
   at_repeat : (place : ℕ) → place < length keys → is_repeat_at keys place ≡ true → IsRepeat keys (key_at place)
   at_repeat place low on = search rules
 
-  -- What repeats stands at a place with its like beside it, at each place where it stands.
-  pub before_repeats : (place key : ℕ) → place < length keys → key_at place ≡ key → 0 < place
-      → key_at (place - 1) ≡ key → IsRepeat keys key
-  before_repeats place key low at some before = inr (place - 1, place, omega arith, low, before, at)
-
-  pub beside : (place key : ℕ) → place < length keys → key_at place ≡ key → IsRepeat keys key
-      → (is_repeat_at keys place ≡ true) ⊎ ((0 < place) × (key_at (place - 1) ≡ key))
-  beside place key low at (inl (loop, has)) = inl ((told_at place).1 (inl (rw at loop)))
-  beside place key low at (inr (i, j, less, j_low, at_i, at_j)) = elim (cases_lt place j) [
-    | inl before ↦ inl ((told_at place).1 (inr (
-      omega arith,
-      between place (place + 1) j (omega arith) (omega arith) j_low (at ∙ sym at_j),
-    )))
-    | inr after ↦ inr (omega arith, between i (place - 1) place (omega arith) (omega arith) low (at_i ∙ sym at) ∙ at_i)
-  ]
+  -- Where a place does not tell of what stands there, the place before it does.
+  pub before_tells : {place key : ℕ} → place < length keys → key_at place ≡ key → 0 < place
+      → is_repeat_at keys place ≡ false → ((key_at (place - 1) == key) ≡ true) ↔ IsRepeat keys key
+  before_tells {place} {key} low at some off = (
+    λ on. inr (place - 1, place, omega arith, low, eqb-true _ key on, at),
+    elim [
+      | inl (loop, has) ↦ grind (arith, nat_tests)
+      | inr (i, j, less, j_low, at_i, at_j) ↦ grind (
+        arith,
+        nat_tests,
+        cases_lt place j,
+        between place (place + 1) j,
+        between i (place - 1) place,
+      )
+    ],
+  )
 
   -- It is told at the first place where it stands.
   repeat_at : (key : ℕ) → IsRepeat keys key
@@ -104,11 +98,8 @@ module _ (keys : List ℕ) (increasing : IsNonDecreasing keys) where
   first_is place low none on = record {
     is = at_repeat place low on;
     least = λ other is.
-        let r = repeat_at other is in
-        elim (cases_lt r.0 place) [
-          | inl less ↦ absurd (false≢true (sym (none r.0 less) ∙ r.3))
-          | inr more ↦ omega (arith, r.2, increasing place r.0 0 more r.1)
-        ];
+        let (k, k_low, at, told) = repeat_at other is in
+        grind (arith, cases_lt k place, none k, told, at, increasing place k 0);
   }
 
   pub none_is : ((k : ℕ) → k < length keys → is_repeat_at keys k ≡ false) → (key : ℕ) → ¬ IsRepeat keys key

@@ -1,11 +1,11 @@
 -- Lists that are joined of parts, in which no item stands twice.
-use Rattle.std.proofs.Common.{rules, ◌≡◌, ◌≢◌, ◌⊎◌, ℕ, zero, suc, ◌+◌, ◌-◌, ◌<◌, ◌≤◌, Bool, true, false, cond, not}
-use Rattle.std.proofs.Common.{List, [], ◌∷◌, ◌++◌, map, length, refl, sym, ◌∙◌, ap, subst, inl, inr, length-append}
+use Rattle.std.proofs.Common.{rules, ◌≡◌, ◌≢◌, ◌⊎◌, ◌↔◌, ℕ, zero, suc, ◌+◌, ◌-◌, ◌<◌, ◌≤◌, Bool, true, false, cond, not}
+use Rattle.std.proofs.Common.{List, [], ◌∷◌, ◌++◌, map, length, refl, sym, ◌∙◌, ap, inr, length-append}
 use Rattle.std.proofs.{Common.arith, lemmas.List.map-id, lemmas.List.Concat.flat_map-append}
 use Rattle.std.proofs.lemmas.List.{get_or_append_left, get_or-append_right, append-nil, append_assoc, map-append}
 use Rattle.std.proofs.lemmas.List.Elements.{All-append, All-nil, Contains-append_left, Contains-append_right}
 use Rattle.std.proofs.lemmas.List.FromFn.{get_or-map-range_with_len, length-map-range_with_len, map-range_with_len_more}
-use Rattle.std.proofs.lemmas.Bool.{cases_eq, cases_lt, lt-ltb, ltb-true}
+use Rattle.std.proofs.lemmas.Bool.{cases_eq, cases_lt, ltb-true, Decides.nat_tests}
 use Rattle.std.specs.List.{All, AllPairs, Contains, flat_map, range_with_len}
 use Rattle.def_layout.specs.Lengths.{Lengths, size, wide, high, AreLengths}
 use Rattle.def_written.specs.Edges.{Edge, on_arc, flat, steep, IsEdge}
@@ -21,34 +21,21 @@ module _ {X : Type 0} where
   -- Lists behind each other that a number tells apart.
   fresh_append : (tag : X → ℕ) (m : ℕ) (xs ys : List X) → IsFresh xs → IsFresh ys → All (λ x. tag x ≤ m) xs
       → All (λ y. m < tag y) ys → IsFresh (xs ++ ys)
-  fresh_append tag m xs ys fresh_x fresh_y is more i j d less low same = grind (
-    arith,
-    length-append xs ys,
-    get_or_append_left xs ys d i,
-    get_or_append_left xs ys d j,
-    get_or-append_right xs ys (length xs) i d refl,
-    get_or-append_right xs ys (length xs) j d refl,
-    is i d,
-    more (j - length xs) d,
-    fresh_x i j d less,
-    fresh_y (i - length xs) (j - length xs) d,
-  )
+  fresh_append tag m xs ys fresh_x fresh_y is more =
+      grind (arith, length-append xs ys, get_or_append_left xs ys, get_or-append_right xs ys (length xs))
 
   -- What is true in each part, and what is in one.
   all_parts : (P : X → Type 0) (part : ℕ → List X) (first many : ℕ)
       → ((k : ℕ) → first ≤ k → k < first + many → All P (part k)) → All P (flat_map part (range_with_len first many))
   all_parts P part first zero each = All-nil P
   all_parts P part first (suc many) each = All-append P (part first) _ (each first (omega arith) (omega arith))
-      (all_parts P part (first + 1) many (λ k low high. each k (omega (arith, low)) (omega (arith, high))))
+      (all_parts P part (first + 1) many (λ k low high. each k (omega arith) (omega arith)))
 
   in_part : (part : ℕ → List X) (first many k : ℕ) (x : X) → first ≤ k → k < first + many → Contains (part k) x
       → Contains (flat_map part (range_with_len first many)) x
-  in_part part first zero k x low high has = absurd (omega (arith, low, high))
-  in_part part first (suc many) k x low high has = elim (cases_eq k first) [
-    | inl same ↦ Contains-append_left (part first) _ x (subst (λ m. Contains (part m) x) same has)
-    | inr other ↦ Contains-append_right (part first) _ x
-        (in_part part (first + 1) many k x (omega (arith, low, other)) (omega (arith, high)) has)
-  ]
+  in_part part first zero k x low high has = absurd (omega arith)
+  in_part part first (suc many) k x low high has =
+      search (rules, cases_eq k first, Contains-append_left, Contains-append_right, in_part part (first + 1) many k x)
 
   -- Parts that are told apart by a number.
   fresh_parts : (part : ℕ → List X) (tag : X → ℕ) (first many : ℕ) → ((k : ℕ) → IsFresh (part k))
@@ -56,7 +43,7 @@ module _ {X : Type 0} where
   fresh_parts part tag first zero fresh tags = λ i j d less low. absurd (omega arith)
   fresh_parts part tag first (suc many) fresh tags = fresh_append tag first (part first) _ (fresh first)
       (fresh_parts part tag (first + 1) many fresh tags) (λ i d low. omega (arith, tags first i d low))
-      (all_parts (λ z. first < tag z) part (first + 1) many (λ k from to i d low. omega (arith, from, tags k i d low)))
+      (all_parts (λ z. first < tag z) part (first + 1) many (λ k from to i d low. omega (arith, tags k)))
 
   -- The same of items by their numbers.
   fresh_range : (item : ℕ → X) (tag : X → ℕ) (many : ℕ) → ((k : ℕ) → tag (item k) ≡ k)
@@ -113,30 +100,14 @@ parts_next f part first many next before is so_far more = rw (more, so_far, ← 
 
 -- What tells edges apart: the kind, the arc or the patch, the number along the arc or of the row or the column, and the
 -- place in that.
-abbrev kind : (e : Edge) → ℕ
-kind (on_arc a k) = 0
-kind (flat p i j) = 1
-kind (steep p i j) = 2
+abbrev parts : (e : Edge) → ℕ × ℕ × ℕ × ℕ
+parts (on_arc a k) = (0, a, k, 0)
+parts (flat p i j) = (1, p, j, i)
+parts (steep p i j) = (2, p, i, j)
 
-abbrev home : (e : Edge) → ℕ
-home (on_arc a k) = a
-home (flat p i j) = p
-home (steep p i j) = p
-
-abbrev line : (e : Edge) → ℕ
-line (on_arc a k) = k
-line (flat p i j) = j
-line (steep p i j) = i
-
-abbrev place : (e : Edge) → ℕ
-place (on_arc a k) = 0
-place (flat p i j) = i
-place (steep p i j) = j
-
-parts_are : (u : Bool) (p n k : ℕ) → (0 < kind (line_edge u p n k)) × (home (line_edge u p n k) ≡ p)
-    × (line (line_edge u p n k) ≡ n) × (place (line_edge u p n k) ≡ k)
-parts_are false p n k = (omega arith, refl, refl, refl)
-parts_are true p n k = (omega arith, refl, refl, refl)
+parts_are : (u : Bool) (p n k : ℕ) → parts (line_edge u p n k) ≡ (cond u 2 1, p, n, k)
+parts_are false p n k = refl
+parts_are true p n k = refl
 
 -- A first edge, and a last one behind it where there are several.
 all_ends : {X : Type 0} (P : X → Type 0) (several : Bool) (first last : X) → P first → P last
@@ -147,15 +118,15 @@ fresh_ends : {X : Type 0} (first last : X) (several : Bool) → (several ≡ tru
     → IsFresh (first ∷ cond several (last ∷ []) [])
 fresh_ends first last several apart = grind arith
 
-last_in : {X : Type 0} (first last : X) (several : Bool) → several ≡ true
-    → Contains (first ∷ cond several (last ∷ []) []) last
-last_in first last several on = rw on (1, omega arith, refl)
+deep_or_end : (u : Bool) (p long n k : ℕ) → k < long
+    → ((0 < k) × (k + 1 < long)) ⊎ Contains (line_ends u p long n) (line_edge u p n k)
+deep_or_end u p long n k less = grind (arith, nat_tests, cases_eq k 0, cases_lt (k + 1) long, cases_lt 1 long)
 
 -- An edge of a line is one of the layout exactly where its numbers are.
-pub line_is : (l : Gluing) (x : Lengths) (u : Bool) (p n k : ℕ) → p < l.patches → 0 < n
-    → n < size l x p (along_lines (not u)) → k < size l x p (along_lines u) → IsEdge l x (line_edge u p n k)
-line_is l x false p n k low some up less = (low, less, some, up)
-line_is l x true p n k low some up less = (low, some, up, less)
+pub line_is : (l : Gluing) (x : Lengths) (u : Bool) (p n k : ℕ) → IsEdge l x (line_edge u p n k)
+    ↔ ((p < l.patches) × (0 < n) × (n < size l x p (along_lines (not u))) × (k < size l x p (along_lines u)))
+line_is l x false p n k = assumption
+line_is l x true p n k = assumption
 
 module _ (l : Gluing) (x : Lengths) where
   -- How long the lines of a patch are.
@@ -175,37 +146,45 @@ module _ (l : Gluing) (x : Lengths) where
       → All P (ends_in l x p)
   each_in P p each = search (rules, All-append, each_line)
 
+  each_patch : (P : Edge → Type 0) → ((u : Bool) (p n k : ℕ) → p < l.patches → 0 < n → n < long (not u) p
+      → (0 < long u p → k < long u p) → P (line_edge u p n k)) → All P (patches_upto l x l.patches)
+  each_patch P each =
+      all_parts P (ends_in l x) 0 l.patches (λ p low up. each_in P p (λ u n k. each u p n k (omega (arith, up))))
+
+  each_arc : (P : Edge → Type 0) → ((a k : ℕ) → a < l.arcs → k < x a → P (on_arc a k)) → All P (arcs_upto x l.arcs)
+  each_arc P each = all_parts P (segments x) 0 l.arcs
+      (λ a low up. all_range P (on_arc a) (x a) (λ k. each a k (omega (arith, up))))
+
   fresh_lines : (u : Bool) (p : ℕ) → IsFresh (all_lines l x u p)
-  fresh_lines u p = fresh_parts (line_ends u p (long u p)) line 1 (long (not u) p - 1)
-      (λ n. fresh_ends (line_edge u p n 0) (line_edge u p n (long u p - 1)) (nat_lt 1 (long u p)) (λ several same.
-      let last = (parts_are u p n (long u p - 1)).3 in
-      omega (arith, ltb-true 1 (long u p) several, (parts_are u p n 0).3, last, ap place same)))
-      (λ n. all_ends (λ e. line e ≡ n) (nat_lt 1 (long u p)) _ _ (parts_are u p n 0).2
-      (parts_are u p n (long u p - 1)).2)
+  fresh_lines u p = fresh_parts (line_ends u p (long u p)) (λ e. (parts e).2) 1 (long (not u) p - 1)
+      (λ n. fresh_ends _ _ (nat_lt 1 (long u p)) (λ several same. omega (
+        arith,
+        ltb-true 1 (long u p) several,
+        ap (λ q. q.3) (sym (parts_are u p n 0) ∙ ap parts same ∙ parts_are u p n (long u p - 1)),
+      )))
+      (λ n. all_ends (λ e. (parts e).2 ≡ n) (nat_lt 1 (long u p)) _ _ (ap (λ q. q.2) (parts_are u p n 0))
+      (ap (λ q. q.2) (parts_are u p n (long u p - 1))))
 
   fresh_patch : (p : ℕ) → IsFresh (ends_in l x p)
-  fresh_patch p = fresh_append kind 1 (all_lines l x false p) _ (fresh_lines false p) (fresh_lines true p)
-      (each_line (λ e. kind e ≤ 1) false p (λ n k some up less. omega arith))
-      (each_line (λ e. 1 < kind e) true p (λ n k some up less. omega arith))
+  fresh_patch p = fresh_append (λ e. (parts e).0) 1 (all_lines l x false p) _ (fresh_lines false p) (fresh_lines true p)
+      (each_line (λ e. (parts e).0 ≤ 1) false p (λ n k some up less. omega arith))
+      (each_line (λ e. 1 < (parts e).0) true p (λ n k some up less. omega arith))
 
   -- No edge is listed twice.
   pub fresh_rim : IsFresh (rim_edges l x)
-  fresh_rim = fresh_append kind 0 (arcs_upto x l.arcs) _ (fresh_parts (segments x) home 0 l.arcs
-      (λ a. fresh_range (on_arc a) line (x a) (λ k. refl)) (λ a. all_range (λ e. home e ≡ a) (on_arc a) (x a)
-      (λ k less. refl))) (fresh_parts (ends_in l x) home 0 l.patches fresh_patch (λ p. each_in (λ e. home e ≡ p) p
-      (λ u n k some up less. (parts_are u p n k).1))) (all_parts (λ e. kind e ≤ 0) (segments x) 0 l.arcs
-      (λ a low up. all_range (λ e. kind e ≤ 0) (on_arc a) (x a) (λ k less. omega arith)))
-      (all_parts (λ e. 0 < kind e) (ends_in l x) 0 l.patches (λ p low up. each_in (λ e. 0 < kind e) p
-      (λ u n k some above less. (parts_are u p n k).0)))
+  fresh_rim = fresh_append (λ e. (parts e).0) 0 (arcs_upto x l.arcs) _
+      (fresh_parts (segments x) (λ e. (parts e).1) 0 l.arcs (λ a. fresh_range (on_arc a) (λ e. (parts e).2) (x a)
+      (λ k. refl)) (λ a. all_range (λ e. (parts e).1 ≡ a) (on_arc a) (x a) (λ k less. refl)))
+      (fresh_parts (ends_in l x) (λ e. (parts e).1) 0 l.patches fresh_patch (λ p. each_in (λ e. (parts e).1 ≡ p) p
+      (λ u n k some up less. ap (λ q. q.1) (parts_are u p n k))))
+      (each_arc (λ e. (parts e).0 ≤ 0) (λ a k low less. omega arith))
+      (each_patch (λ e. 0 < (parts e).0) (λ u p n k low some up less. grind (arith, parts_are u p n k)))
 
   -- What is listed is an edge.
   pub all_edges : HasWholeSides l → AreLengths l x → All (IsEdge l x) (rim_edges l x)
   all_edges paved len = All-append (IsEdge l x) (arcs_upto x l.arcs) (patches_upto l x l.patches)
-      (all_parts (IsEdge l x) (segments x) 0 l.arcs (λ a low up. all_range (IsEdge l x) (on_arc a) (x a)
-      (λ k less. (omega (arith, up), less)))) (all_parts (IsEdge l x) (ends_in l x) 0 l.patches (λ p low up.
-      let there : p < l.patches = omega (arith, up) in
-      each_in (IsEdge l x) p (λ u n k some above less. line_is l x u p n k there some above
-      (less (size_some l x paved len p (along_lines u) there)))))
+      (each_arc (IsEdge l x) (λ a k low less. (low, less))) (each_patch (IsEdge l x) (λ u p n k low some up less.
+      (line_is l x u p n k).1 (low, some, up, less (size_some l x paved len p (along_lines u) low))))
 
   -- Both ends of an edge are inner points of a patch.
   abbrev pub IsDeep : (e : Edge) → Type 0
@@ -214,32 +193,20 @@ module _ (l : Gluing) (x : Lengths) where
   IsDeep (steep p i j) = (0 < j) × (j + 1 < high l x p)
 
   -- Each other edge is listed.
-  in_lines : (u : Bool) (p : ℕ) (e : Edge) → p < l.patches → Contains (all_lines l x u p) e → Contains (rim_edges l x) e
-  in_lines u p e low has = Contains-append_right (arcs_upto x l.arcs) _ e
-      (in_part (ends_in l x) 0 l.patches p e (omega arith) (omega (arith, low)) (by_way u has))
+  in_lines : (u : Bool) (p n : ℕ) (e : Edge) → p < l.patches → 0 < n → n < long (not u) p
+      → Contains (line_ends u p (long u p) n) e → Contains (rim_edges l x) e
+  in_lines u p n e low some up has = Contains-append_right (arcs_upto x l.arcs) _ e
+      (in_part (ends_in l x) 0 l.patches p e (omega arith) (omega (arith, low)) (by_way u
+      (in_part (line_ends u p (long u p)) 1 (long (not u) p - 1) n e (omega (arith, some)) (omega (arith, up)) has)))
     where
       by_way : (v : Bool) → Contains (all_lines l x v p) e → Contains (ends_in l x p) e
       by_way false row = Contains-append_left (all_lines l x false p) _ e row
       by_way true column = Contains-append_right (all_lines l x false p) _ e column
 
-  deep_or_end : (u : Bool) (p n k : ℕ) → p < l.patches → 0 < n → n < long (not u) p → k < long u p
-      → ((0 < k) × (k + 1 < long u p)) ⊎ Contains (rim_edges l x) (line_edge u p n k)
-  deep_or_end u p n k low some up less = elim (cases_eq k 0) [
-    | inl none ↦ inr (listed (rw none (0, omega arith, refl)))
-    | inr later ↦ elim (cases_lt (k + 1) (long u p)) [
-      | inl inner ↦ inl (omega arith, inner)
-      | inr end ↦
-          let last : k ≡ long u p - 1 = omega arith in
-          inr (listed (rw last (last_in _ _ (nat_lt 1 (long u p)) (lt-ltb 1 (long u p) (omega arith)))))
-    ]
-  ]
-    where
-      listed : Contains (line_ends u p (long u p) n) (line_edge u p n k) → Contains (rim_edges l x) (line_edge u p n k)
-      listed has = in_lines u p _ low
-          (in_part (line_ends u p (long u p)) 1 (long (not u) p - 1) n _ (omega arith) (omega arith) has)
-
   pub deep_or_listed : (e : Edge) → IsEdge l x e → IsDeep e ⊎ Contains (rim_edges l x) e
   deep_or_listed (on_arc a k) is = inr (Contains-append_left (arcs_upto x l.arcs) _ (on_arc a k)
       (in_part (segments x) 0 l.arcs a _ (omega arith) (omega (arith, is.0)) (in_range (on_arc a) (x a) k is.1)))
-  deep_or_listed (flat p i j) is = deep_or_end false p j i is.0 is.2 is.3 is.1
-  deep_or_listed (steep p i j) is = deep_or_end true p i j is.0 is.1 is.2 is.3
+  deep_or_listed (flat p i j) is =
+      grind (arith, deep_or_end false p (long false p) j i is.1, in_lines false p j (flat p i j) is.0 is.2 is.3)
+  deep_or_listed (steep p i j) is =
+      grind (arith, deep_or_end true p (long true p) i j is.3, in_lines true p i (steep p i j) is.0 is.1 is.2)

@@ -1,6 +1,6 @@
 -- Safe lengths double no edge, and lengths that double none keep the shape.
 use Rattle.std.proofs.Common.{rules, ◌≡◌, ℕ, ◌*◌, ◌/◌, ◌<◌, Bool, List, length, sym, ◌∙◌, ap, subst, inl, inr, arith}
-use Rattle.std.proofs.{lemmas.Bool.cases_lt, lemmas.List.get_or_past, lemmas.Nat.div-mul-add}
+use Rattle.std.proofs.{lemmas.Bool.cases_lt, lemmas.List.get_or_past, Math.Nat.mul-div_cancel}
 use Rattle.std.specs.Prelude.{◌↔◌, IsTrue}
 use Rattle.def_layout.specs.{Arcs.long_at, Lengths.Lengths, Lengths.AreLengths, Layouts.Layout, Layouts.gluing_of}
 use Rattle.def_remesh.specs.{NewPoints.lengths_in, NewPoints.multiple_of, Stitched.AreMultiples, Stitched.AreSafe}
@@ -22,24 +22,18 @@ module _ (layout : Layout) (list : List ℕ) (long : length list ≡ length layo
       (λ i arc. same_lengths by same arc i) (multiple_law is.faces _ _ _ (lies layout is) by some).1
 
   -- Where lengths are multiples of the old ones, the first tells how many times.
-  pub times_found : AreLengths (gluing_of layout) (lengths_in list) → (result : Bool) (old by : ℕ) → 0 < length list
+  pub times_found : AreLengths (gluing_of layout) (lengths_in list) → {result : Bool} {old by : ℕ} → 0 < length list
       → old ≡ long_at layout.arcs 0 → 0 < old → by ≡ lengths_in list 0 / old
       → IsTrue result ↔ ((arc : ℕ) → arc < length list → lengths_in list arc ≡ multiple_of by (long_at layout.arcs) arc)
       → IsTrue result ↔ AreMultiples layout (lengths_in list)
-  times_found len result old by some old_is old_some by_is both = (
+  times_found len {result} {old} {by} some old_is old_some by_is both = (
     λ on.
         let each = both.0 on in
-        let positive : 0 < by = elim (cases_lt 0 by) [
-          | inl more ↦ more
-          | inr none ↦
-              let zero : by ≡ 0 = omega arith in
-              let is = rw zero at (each 0 some) in absurd (omega arith)
-        ] in
+        let positive : 0 < by = grind (arith, cases_lt 0 by, each 0 some, len.some 0) in
         (by, positive, λ arc low. each arc (omega arith)),
     λ (times, times_some, each).
         let first : lengths_in list 0 ≡ times * old = each 0 (omega arith) ∙ ap (λ n. times * n) (sym old_is) in
-        let same : by ≡ times = by_is ∙ ap (λ n. n / old) first ∙ ap (λ n. n / old) (omega arith)
-        ∙ div-mul-add times old 0 old_some in
+        let same : by ≡ times = by_is ∙ ap (λ n. n / old) first ∙ mul-div_cancel times old_some in
         both.1 (λ arc low. each arc (omega arith) ∙ ap (λ n. multiple_of n (long_at layout.arcs) arc) (sym same)),
   )
 

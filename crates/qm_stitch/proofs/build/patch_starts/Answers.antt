@@ -1,11 +1,8 @@
-use Rattle.std.proofs.Common.{rules, ◌≡◌, ℕ, ◌-◌, ◌*◌, List, length, sym, arith}
+use Rattle.std.proofs.Common.{rules, ◌≡◌, ◌-◌, ◌*◌, length, sym, arith}
 use Rattle.{std.proofs.lemmas.List.length-map, qm_offsets.proofs.Spots.next_room, qm_offsets.proofs.Spots.term_room}
-use Rattle.{std.specs.Prelude.slice_index, def_remesh.specs.Numberings.tables_of, qm_offsets.specs.Fours.begins_of}
+use Rattle.{def_remesh.specs.Numberings.tables_of, qm_offsets.specs.Fours.begins_of}
 use Rattle.{qm_stitch.specs.Sizes.product_by, qm_stitch.proofs.build.patch_starts.Goals.After-last_of-in-loop-patch}
 use Rattle.qm_stitch.proofs.build.patch_starts.Goals as goal
-
-abbrev end_of : (starts : List ℕ) → ℕ
-end_of starts = slice_index starts (length starts - 1)
 
 -- The product is that by the tables.
 product : (c : After-last_of-in-loop-patch)

@@ -1,28 +1,23 @@
-use Rattle.std.proofs.Common.{rules, ◌≡◌, ℕ, suc, ◌+◌, ◌*◌, ◌^◌, ◌<◌, ◌≤◌, length, refl, ◌∙◌, arith}
-use Rattle.{std.proofs.lemmas.List.length-map, def_layoutnet.specs.MeshLayouts.IsSomeLayout}
-use Rattle.def_layout.specs.{Arcs.long_at, Gluings.south, Gluings.west, Lengths.wide, Lengths.high, Layouts.gluing_of}
-use Rattle.def_layout.specs.{Layouts.layout_of, declared.tmesh.TMesh.TMesh}
+use Rattle.std.proofs.Common.{rules, ◌≡◌, ℕ, suc, ◌*◌, ◌^◌, ◌<◌, ◌≤◌, length, refl, ◌∙◌, arith}
+use Rattle.def_layout.specs.{Arcs.long_at, Gluings.south, Gluings.west, Layouts.gluing_of, Layouts.layout_of}
+use Rattle.def_layout.specs.{Lengths.wide, Lengths.high, declared.tmesh.TMesh.TMesh}
 use Rattle.def_written.specs.NewFaces.{cells_before, face_count}
 use Rattle.embedding_laws.proofs.Bounds.{laid_of, lengths_of, cells_most, old_faces}
-use Rattle.written_laws.proofs.Spacings.{count_rises}
-use Rattle.{def_cut.specs.Grids.rectangle, def_remesh.specs.NewPoints.lengths_in}
+use Rattle.{def_layoutnet.specs.MeshLayouts.IsSomeLayout, def_remesh.specs.NewPoints.lengths_in}
+use Rattle.{qm_stitch.proofs.Grids.counts, written_laws.proofs.Spacings.count_rises}
 use Rattle.qm_stitch.proofs.count.count_faces.Goals as goal
 
 -- All faces are few enough for 128 bits.
 few : (t : TMesh) (x : ℕ → ℕ) (is : IsSomeLayout (layout_of t)) → ((a : ℕ) → x a ≤ 10 ^ 12) → (p : ℕ)
-    → p < length t.patches.items → cells_before (gluing_of (layout_of t)) x p + wide (gluing_of (layout_of t)) x p
-    * high (gluing_of (layout_of t)) x p < 2 ^ 128
+    → p < length t.patches.items → cells_before (gluing_of (layout_of t)) x (suc p) < 2 ^ 128
 few t x is most p low =
     let l = gluing_of (layout_of t) in
-    let l_low : suc p ≤ length (layout_of t).patches = omega (arith, length-map t.patches.items rectangle) in
-    let all : cells_before l (long_at (layout_of t).arcs) (suc p) ≤ face_count l (long_at (layout_of t).arcs) =
-    count_rises _ (suc p) _ l_low in
-    omega (
-      arith,
-      cells_most l (long_at (layout_of t).arcs) x (10 ^ 12) (laid_of (layout_of t) is) (lengths_of (layout_of t) is)
-          most (suc p) l_low,
-      old_faces (layout_of t) is,
-    )
+    let old = long_at (layout_of t).arcs in
+    let upto : suc p ≤ length (layout_of t).patches = omega counts in
+    let all : cells_before l old (suc p) ≤ face_count l old = count_rises _ (suc p) _ upto in
+    let most =
+    cells_most l old x (10 ^ 12) (laid_of (layout_of t) is) (lengths_of (layout_of t) is) most (suc p) upto in
+    omega (arith, old_faces (layout_of t) is)
 
 product : (c : goal.After-from-in-loop-patch) → c.from.result * c.from-in-loop-patch.result
     ≡ wide (gluing_of (layout_of c.args.stretched.now.t.now)) (lengths_in c.args.stretched.now.lengths.now)

@@ -1,15 +1,13 @@
-use Rattle.{std.proofs.Common.rules, std.proofs.Common.length, qm_stitch.specs.Lengthened.lengths_by}
+use Rattle.{std.proofs.Common.rules}
 use Rattle.qm_stitch.proofs.{Grids.there, Grids.IsThere, point.side_number.Goals.After-spot_in-at}
-use Rattle.{def_remesh.specs.Numberings.sizes_on}
 use Rattle.qm_stitch.proofs.point.side_number.Goals as goal
 
 here : (c : After-spot_in-at) → IsThere c.args.side.now.numbered.numbers c.args.side.now.arcs.now
     c.args.side.now.starts.now c.args.place c.spot_in-at.result
 here c =
     let side = c.args.side.now in
-    there side.numbered.numbers side.arcs.now side.starts.now c.args.place c.spot_in-at.result side.some side.begun
-    c.requires
-    (c.spot_in-at.ensures.run (sizes_on side.arcs.now (lengths_by side.numbered)) (length side.arcs.now) side.begun)
+    let run = c.spot_in-at.ensures.run _ _ side.begun in
+    there side.numbered.numbers side.arcs.now side.some side.begun c.requires run
 
 pub overflow_sub-place : goal.overflow_sub-place
 overflow_sub-place c = (here (goal.at.overflow_sub-place c).After-spot_in-at).from

@@ -18,17 +18,7 @@ loop-used-preserved c =
     let back : to_z w64 (of_z w64 c.short_price.result) ≡ c.short_price.result =
     to_z-of_z w64 c.short_price.result (search rules) in
     record {
-      sum = omega (
-        arith,
-        ints,
-        e,
-        back,
-        c.loop-used.invariant.sum,
-        c.loop-used.invariant.low,
-        c.loop-used.invariant.high,
-        c.short_price.ensures,
-        c.from-price.ensures,
-      );
+      sum = omega (arith, ints, e, back, c.short_price.ensures, c.from-price.ensures);
       low = omega (arith, ints);
       high = omega (arith, ints);
     }

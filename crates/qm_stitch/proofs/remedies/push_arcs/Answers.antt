@@ -1,5 +1,5 @@
-use Rattle.std.proofs.Common.{◌≡◌, length, arith}
-use Rattle.qm_stitch.proofs.DoubledPairs.{told_next, told_none}
+use Rattle.std.proofs.Common.{arith}
+use Rattle.qm_stitch.proofs.DoubledPairs.{told_end, told_next, told_none}
 use Rattle.qm_stitch.proofs.remedies.push_arcs.Goals as goal
 
 pub loop-arc-init : goal.loop-arc-init
@@ -9,6 +9,4 @@ pub loop-arc-preserved : goal.loop-arc-preserved
 loop-arc-preserved c r = told_next _ (c.loop-arc.invariant r) (c.in_ok-push_arc.ensures r)
 
 pub returns : goal.returns
-returns c =
-    let end : c.loop-arc.arc ≡ length c.args.priced.now.keyed.numbered.t.now.arcs.items = omega arith in
-    rw end at c.loop-arc.invariant
+returns c r = told_end (omega arith) (c.loop-arc.invariant r)

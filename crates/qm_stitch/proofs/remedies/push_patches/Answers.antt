@@ -1,5 +1,5 @@
-use Rattle.std.proofs.Common.{◌≡◌, length, arith}
-use Rattle.qm_stitch.proofs.DoubledPairs.{told_next, told_none}
+use Rattle.std.proofs.Common.{arith}
+use Rattle.qm_stitch.proofs.DoubledPairs.{told_end, told_next, told_none}
 use Rattle.qm_stitch.proofs.remedies.push_patches.Goals as goal
 
 pub loop-patch-init : goal.loop-patch-init
@@ -9,6 +9,4 @@ pub loop-patch-preserved : goal.loop-patch-preserved
 loop-patch-preserved c r = told_next _ (c.loop-patch.invariant r) (c.in_ok-push_sides.ensures r)
 
 pub returns : goal.returns
-returns c =
-    let end : c.loop-patch.patch ≡ length c.args.priced.now.keyed.numbered.t.now.patches.items = omega arith in
-    rw end at c.loop-patch.invariant
+returns c r = told_end (omega arith) (c.loop-patch.invariant r)

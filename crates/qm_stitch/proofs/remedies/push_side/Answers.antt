@@ -1,10 +1,9 @@
-use Rattle.std.proofs.Common.{sym, ◌∙◌, ap, arith, rules}
-use Rattle.{std.proofs.lemmas.Bool.false≢true, std.proofs.lemmas.Int.to_z-of_z, def_layout.specs.Layouts.layout_of}
+use Rattle.std.proofs.{Common.sym, Common.◌∙◌, Common.arith, Common.rules, lemmas.Int.to_z-of_z, lemmas.Bool.false≢true}
 use mir.Syntax.{w128}
-use Rattle.{qm_stitch.specs.Lengthened.lengths_by, qm_stitch.specs.Remedies.price_along}
-use Rattle.{qm_stitch.specs.declared.remedy.Run.TheVariants.Side as side_run, written_laws.proofs.Sides.size_some}
-use Rattle.qm_stitch.proofs.{DoubledPairs.told_next, DoubledPairs.told_none, DoubledPairs.told_so, Lines.none_along}
-use Rattle.qm_stitch.proofs.{Lines.side_both, RiseLists.uses_tell, Grids.patch_low, Grids.uses_low}
+use Rattle.qm_stitch.proofs.{RiseLists.uses_tell, Lines.none_along, Lines.side_both, Grids.counts, Grids.uses_low}
+use Rattle.qm_stitch.proofs.DoubledPairs.{told_next, told_none, told_so}
+use Rattle.qm_stitch.specs.{declared.remedy.Run.TheVariants.Side as side_run, Lengthened.lengths_by}
+use Rattle.{def_layout.specs.Layouts.layout_of, written_laws.proofs.Sides.size_some}
 use Rattle.qm_stitch.proofs.remedies.push_side.Goals as goal
 
 pub is_some_short-requires : goal.is_some_short-requires
@@ -16,29 +15,22 @@ price_along-price-requires c = search (rules, uses_low)
 pub returns-then-not-is_some_short : goal.returns-then-not-is_some_short
 returns-then-not-is_some_short c r =
     let numbered = c.args.priced.now.keyed.numbered in
+    let told = uses_tell (layout_of numbered.t.now) (lengths_by numbered) c.args.patch c.args.side
+    c.side_of-uses.ensures c.is_some_short.ensures in
     told_none (none_along c.args.priced.now (side_run c.args.patch c.args.side)
-    (λ short. false≢true (sym c.if-not-is_some_short.true ∙ c.is_some_short.ensures.1 ((uses_tell
-    (layout_of numbered.t.now) (lengths_by numbered) c.args.patch c.args.side c.side_of-uses.result.now
-    c.side_of-uses.ensures).1 short))) r)
+    (λ short. false≢true (sym c.if-not-is_some_short.true ∙ told.1 short)) r)
 
 pub loop-number-init : goal.loop-number-init
 loop-number-init c =
     let numbered = c.args.priced.now.keyed.numbered in
     record {
       some = omega arith;
-      upto = size_some _ _ numbered.numbers.whole.paved numbered.numbers.lengths
-          _ _ (patch_low numbered.t.now c.requires.patch);
+      upto = size_some _ _ numbered.numbers.whole.paved numbered.numbers.lengths _ _ (omega counts);
       adds = λ r. told_none (λ is. omega arith);
     }
 
 pub push_line-requires : goal.push_line-requires
-push_line-requires c = record {
-  line = record {
-    patch = patch_low c.args.priced.now.keyed.numbered.t.now c.requires.patch;
-    some = c.loop-number.invariant.some;
-    inside = omega arith;
-  };
-}
+push_line-requires c = record { line = omega counts }
 
 pub loop-number-preserved : goal.loop-number-preserved
 loop-number-preserved c = record {
@@ -51,9 +43,9 @@ loop-number-preserved c = record {
 pub returns : goal.returns
 returns c r =
     let numbered = c.args.priced.now.keyed.numbered in
-    let read = c.side_of-uses.ensures in
-    let cost = to_z-of_z w128 c.price_along-price.result (search rules) ∙ c.price_along-price.ensures
-    ∙ ap (price_along (lengths_by numbered) c.args.priced.now.prices.now) read in
+    let told = uses_tell (layout_of numbered.t.now) (lengths_by numbered) c.args.patch c.args.side
+    c.side_of-uses.ensures c.is_some_short.ensures in
+    let cost = rw c.side_of-uses.ensures at c.price_along-price.ensures in
     told_so (c.loop-number.invariant.adds r) (side_both c.args.priced.now c.args.patch c.args.side c.loop-number.number
-    _ c.requires.side (omega arith) cost ((uses_tell (layout_of numbered.t.now) (lengths_by numbered) c.args.patch
-    c.args.side c.side_of-uses.result.now read).0 (c.is_some_short.ensures.0 c.if-not-is_some_short.false)) r)
+    _ c.requires.side (omega arith) (to_z-of_z w128 _ (search rules) ∙ cost)
+    (told.0 c.if-not-is_some_short.false) r)

@@ -1,4 +1,4 @@
-use Rattle.std.proofs.{Common.rules, Common.◌-◌, Common.ℕ, Common.◌∙◌, Common.ap, Common.arith, lemmas.Bool.lt-ltb}
+use Rattle.std.proofs.{Common.rules, Common.◌-◌, Common.arith, lemmas.Bool.lt-ltb}
 use Rattle.qm_stitch.specs.{Rims.along_lines, Rims.key_of, Rims.line_edge, Lengthened.gluing_in, Lengthened.lengths_by}
 use Rattle.qm_stitch.proofs.RimEdges.{first_next}
 use Rattle.{std.specs.Prelude.nat_lt, def_layout.specs.Lengths.size, written_laws.proofs.Sides.size_some}
@@ -17,4 +17,4 @@ returns-in_ok-push-2 c =
     let long_is = c.size_at-long.ensures (along_lines line.upright) c.side_along.ensures.side in
     first_next key (edge 0) (edge (long - 1)) (nat_lt 1 long) c.args.keys.now.items (lt-ltb 1 long (omega arith))
     c.in_ok-push.ensures.items c.key_at.ensures c.in_ok-push-2.ensures.items
-    (c.key_at-then-long-gt1.ensures ∙ ap (λ (n : ℕ). key (edge (n - 1))) long_is)
+    (rw long_is at c.key_at-then-long-gt1.ensures)

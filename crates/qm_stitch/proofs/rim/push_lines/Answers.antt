@@ -1,24 +1,16 @@
 use Rattle.std.proofs.Common.{rules, ◌≡◌, ◌-◌, ◌+◌, not, arith}
 use Rattle.def_layout.specs.{Lengths.size}
 use Rattle.qm_stitch.specs.{Rims.along_lines, Rims.key_of, Rims.line_ends, Lengthened.gluing_in, Lengthened.lengths_by}
-use Rattle.{qm_stitch.proofs.Grids.patch_low, qm_stitch.proofs.RimEdges.parts_next, written_laws.proofs.Sides.size_some}
+use Rattle.{qm_stitch.proofs.Grids.counts, qm_stitch.proofs.RimEdges.parts_next, written_laws.proofs.Sides.size_some}
 use Rattle.qm_stitch.proofs.rim.push_lines.Goals as goal
 
 pub loop-number-init : goal.loop-number-init
-loop-number-init c = search (rules, size_some, patch_low)
+loop-number-init c = search (rules, counts, size_some)
 
 pub push_line-requires : goal.push_line-requires
-push_line-requires c = record {
-  line = record {
-    patch = patch_low c.args.numbered.now.t.now c.requires.patch;
-    some = c.loop-number.invariant.some;
-    inside = omega (
-      arith,
-      c.loop-number-test.true,
-      c.size_at-number-end.ensures (along_lines (not c.args.upright)) c.side_along.ensures.side,
-    );
-  };
-}
+push_line-requires c =
+    let long = c.size_at-number-end.ensures (along_lines (not c.args.upright)) c.side_along.ensures.side in
+    record { line = omega counts }
 
 pub loop-number-preserved : goal.loop-number-preserved
 loop-number-preserved c =

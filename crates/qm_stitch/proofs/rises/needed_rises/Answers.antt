@@ -1,6 +1,5 @@
-use Rattle.std.proofs.{Common.sym, Common.◌∙◌, Common.inl, Common.arith, lemmas.List.length-map}
-use Rattle.def_layout.specs.{Arcs.path, Layouts.layout_of}
-use Rattle.qm_stitch.proofs.{Grids.tables_are, SafeLengths.safe_undoubled}
+use Rattle.qm_stitch.proofs.{Grids.counts, Grids.tables_are, SafeLengths.safe_undoubled}
+use Rattle.{std.proofs.Common.◌∙◌, std.proofs.Common.inl, def_layout.specs.Layouts.layout_of}
 use Rattle.qm_stitch.proofs.rises.needed_rises.Goals as goal
 
 pub invariant_of-numbered : goal.invariant_of-numbered
@@ -14,9 +13,7 @@ invariant_of-priced c = record {
   same = c.in_ok-tables.ensures.lengths;
   few = c.requires.few;
   short = λ all.
-      let long = c.requires.long ∙ sym (length-map c.args.t.now.arcs.items path) in
-      safe_undoubled (layout_of c.args.t.now) c.args.lengths.now long c.requires.layout c.requires.lengths
-      (inl (λ arc low. all arc (omega (arith, low, long))))
-      c.requires.doubled.0 c.requires.doubled.1 c.requires.doubled.2;
+      safe_undoubled (layout_of c.args.t.now) c.args.lengths.now (omega counts) c.requires.layout c.requires.lengths
+      (inl (λ arc low. all arc (omega counts))) c.requires.doubled.0 c.requires.doubled.1 c.requires.doubled.2;
   many = c.requires.prices ∙ c.requires.long;
 }

@@ -1,6 +1,5 @@
-use Rattle.std.proofs.Common.{refl, sym, ◌∙◌}
-use Rattle.qm_stitch.proofs.{RiseLists.none_some, RiseLists.rises_too, RiseLists.stays}
-use Rattle.qm_stitch.proofs.{rises.rises_by.Goals.in-Some+in_ok-push, rises.rises_by.Goals.in_default}
+use Rattle.qm_stitch.proofs.rises.rises_by.Goals.{in-Some+in_ok-push, in_default}
+use Rattle.{std.proofs.Common.refl, qm_stitch.proofs.RiseLists.rises_too, qm_stitch.proofs.RiseLists.stays}
 
 pub loop-arc-preserved : Rattle.qm_stitch.proofs.rises.rises_by.Goals.loop-arc-preserved
 loop-arc-preserved c = elim c.match-floor_of.branch [
@@ -10,5 +9,5 @@ loop-arc-preserved c = elim c.match-floor_of.branch [
       c.loop-arc-test.true ((c.floor_of.ensures w.in-Some.floor).0 w.in-Some.is))
   | in_default w ↦ rw w.rises-is (stays c.args.some c.args.marked.now.tight.now c.args.marked.now.lengths.now
       c.loop-arc.arc c.loop-arc.rises.items c.loop-arc.invariant
-      (λ floor is. none_some floor (sym w.in_default.is ∙ (c.floor_of.ensures floor).1 is)))
+      (λ floor is. cc (w.in_default.is, (c.floor_of.ensures floor).1 is)))
 ]

@@ -1,8 +1,7 @@
-use Rattle.std.proofs.Common.{◌≡◌, ◌++◌, [], ◌∷◌, map, ◌∙◌, ap, sym, arith}
-use Rattle.std.proofs.lemmas.List.FromFn.{map-range_with_len_more}
+use Rattle.std.proofs.Common.{◌≡◌, ◌++◌, [], ◌∷◌, ◌∙◌, sym, arith}
+use Rattle.qm_stitch.proofs.{stitching.all_faces.Goals.After-last_of-count, Grids.starts_end}
 use Rattle.qm_stitch.specs.Lengthened.{gluing_in, lengths_by}
-use Rattle.qm_stitch.proofs.{Grids.starts_end, stitching.all_faces.Goals.After-last_of-count}
-use Rattle.{std.specs.List.range_with_len, def_written.specs.NewFaces.face_count, def_written.specs.NewFaces.new_face}
+use Rattle.{std.proofs.lemmas.List.FromFn.map-range_with_len_more, def_written.specs.NewFaces.face_count}
 use Rattle.qm_stitch.proofs.stitching.all_faces.Goals as goal
 
 all : (c : After-last_of-count) → c.last_of-count.result ≡ face_count (gluing_in c.args.numbered.now)
@@ -20,5 +19,4 @@ pub returns : goal.returns
 returns c =
     let end : c.loop-face.face ≡ face_count (gluing_in c.args.numbered.now) (lengths_by c.args.numbered.now) =
     omega (arith, all (goal.at.returns c).After-last_of-count) in
-    c.loop-face.invariant ∙ ap (λ n. map (new_face (gluing_in c.args.numbered.now) (lengths_by c.args.numbered.now))
-    (range_with_len 0 n)) end
+    rw end at c.loop-face.invariant

@@ -1,5 +1,5 @@
 use Rattle.std.proofs.Common.{◌≡◌, ◌↔◌, ◌+◌, ◌∷◌, ◌++◌, [], ℕ, true, false, get_or, below_more, ap, ◌∙◌, arith}
-use Rattle.std.proofs.lemmas.List.{get_or_append_left, get_or_push, length_push}
+use Rattle.std.proofs.lemmas.{List.get_or_append_left, List.get_or_push, List.length_push}
 use Rattle.qm_stitch.specs.{Lengthened.gluing_in, Lengthened.lengths_by, Tight.IsDoubledOn}
 
 pub loop-arc-preserved : Rattle.qm_stitch.proofs.tight.doubled_arcs.Goals.loop-arc-preserved

@@ -1,5 +1,4 @@
-use Rattle.std.proofs.Common.{◌-◌, ℕ, ◌∙◌, ap, inl}
-use Rattle.qm_stitch.specs.{Lengthened.gluing_in, Lengthened.lengths_by, Rims.along_lines, Rims.key_of, Rims.line_edge}
+use Rattle.{std.proofs.Common.inl, qm_stitch.specs.Rims.along_lines}
 use Rattle.qm_stitch.proofs.{DoubledPairs.told_first, TightEdges.line_tells}
 use Rattle.qm_stitch.proofs.tight.is_line_doubled.Goals as goal
 
@@ -11,10 +10,7 @@ returns-then-is_repeat c = (
 
 pub returns-else-is_repeat : goal.returns-else-is_repeat
 returns-else-is_repeat c =
-    let numbered = c.args.keyed.now.numbered in
-    let line = c.args.line in
-    let last = c.key_at-else-is_repeat.ensures ∙ ap (λ (n : ℕ). key_of (gluing_in numbered) (lengths_by numbered)
-    (line_edge line.upright line.patch line.number (n - 1)))
-    (c.size_at-last.ensures (along_lines line.upright) c.side_along.ensures.side) in
-    told_first (rw c.key_at.ensures at c.is_repeat.ensures) (rw last at c.is_repeat-else-is_repeat.ensures)
-    c.if-is_repeat.false (line_tells c.args.keyed.now c.requires.line)
+    let long = c.size_at-last.ensures (along_lines c.args.line.upright) c.side_along.ensures.side in
+    told_first (rw c.key_at.ensures at c.is_repeat.ensures)
+    (rw (c.key_at-else-is_repeat.ensures, long) at c.is_repeat-else-is_repeat.ensures) c.if-is_repeat.false
+    (line_tells c.args.keyed.now c.requires.line)

@@ -1,11 +1,12 @@
-use Rattle.std.proofs.{Common.sym, Common.◌∙◌, Common.arith, lemmas.List.length-map, lemmas.List.with_items_is}
-use Rattle.{def_cut.specs.Grids.rectangle, def_layout.specs.Arcs.path, qm_stitch.proofs.TightEdges.tight_told}
+use Rattle.std.proofs.{Common.◌∙◌, lemmas.List.with_items_is}
+use Rattle.qm_stitch.proofs.{DoubledPairs.told_both, Grids.counts, Grids.patches_long, TightEdges.tight_is}
 
 pub returns-clause-each : Rattle.qm_stitch.proofs.tight.tight_arcs.Goals.returns-clause-each
 returns-clause-each c arc low =
-    let numbered = c.args.keyed.now.numbered in
-    let arcs = length-map _ path in
+    let all = patches_long c.args.keyed.now.numbered.t.now.patches.items in
+    let long = c.in_ok-tight.ensures.long in
+    let same = c.deref_mut.ensures.len in
+    let adds = rw (c.deref_mut.ensures.value, ← all) at (c.mark_patches.ensures arc (omega counts)) in
     rw (with_items_is c.in_ok-tight.tight c.mark_patches.new.tight
-    (c.mark_patches.auto.tight ∙ c.deref_mut.ensures.len)) (tight_told _ _ _ _ _ _ (sym (length-map _ rectangle))
-    c.deref_mut.ensures.value (c.in_ok-tight.ensures.long ∙ sym arcs) (λ a less. c.in_ok-tight.ensures.each a
-    (omega arith)) c.mark_patches.ensures arc (omega arith))
+    (c.mark_patches.auto.tight ∙ same))
+    (told_both (c.in_ok-tight.ensures.each arc low) adds (tight_is _ _ arc))

@@ -11,8 +11,7 @@ overflow_add-result-2 c =
     let are = tables_are c.self.invariant.numbers in
     omega (
       arith,
-      are.few,
-      are.nodes,
+      are,
       starts_end are.along c.deref.ensures.value c.last_of.ensures,
       starts_end are.inside c.deref-2.ensures.value c.last_of-2.ensures,
     )
