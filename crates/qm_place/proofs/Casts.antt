@@ -1,16 +1,16 @@
 -- Numbers that fit their type, and products of such.
-use Rattle.std.proofs.Common.{rules, ◌≡◌, ℕ, zero, suc, ◌-◌, ◌*◌, ◌^◌, ◌<◌, ◌≤◌, ℤ, pos, negsuc, ◌+ℤ◌, ◌-ℤ◌, ◌*ℤ◌, to_z}
-use Rattle.std.proofs.Common.{of_z, ◌∙◌, ap, arith, ◌+◌, ◌/◌, ◌%◌, List, length, Option, sym, subst}
+use Rattle.std.proofs.Common.{rules, ◌≡◌, ℕ, suc, ◌-◌, ◌*◌, ◌^◌, ◌<◌, ◌≤◌, ℤ, pos, negsuc, ◌+ℤ◌, ◌-ℤ◌, ◌*ℤ◌, to_z}
+use Rattle.std.proofs.Common.{of_z, ◌∙◌, ap, arith, ◌+◌, ◌/◌, ◌%◌, List, length, Option, sym, subst, FitsSigned}
 use Rattle.std.proofs.{lemmas.Int.ints, lemmas.Nat.mul-le, Math.Nat.mul_comm}
 use Rattle.std.specs.{Prelude.unsigned_abs, Prelude.neg_ℤ, Int.int_div_euclid, Int.w64, Int.w128}
-use Rattle.def_written.specs.Places.{on_the_way, ONE, blend, parameter, parameter_back, ArcSpacing}
+use Rattle.def_written.specs.Places.{on_the_way, ONE, blend, ArcSpacing}
 use Rattle.def_written.specs.{Points.Point, Points.node, Points.along, Points.inside, Points.IsPoint}
 use Rattle.def_written.specs.{Numbers.before_arc, Numbers.before_patch, Numbers.vertices, Spacings.IsSpacing}
 use Rattle.written_laws.proofs.{Between.way_within, Between.blend_within, Spacings.even_edge, Spacings.run_here}
 use Rattle.written_laws.proofs.{EdgeNumbers.in_rows, Rims.wide_some, Rims.high_some}
-use Rattle.def_layout.specs.{Gluings.Gluing, Gluings.south, Gluings.east, Gluings.north, Gluings.west, Lengths.Lengths}
-use Rattle.def_layout.specs.{Lengths.wide, Lengths.high, Lengths.AreLengths, Layouts.Layout, Layouts.gluing_of}
-use Rattle.def_layout.specs.{Layouts.vertex_at, Arcs.long_at}
+use Rattle.def_layout.specs.Gluings.{Gluing, Way, south, east, north, west}
+use Rattle.def_layout.specs.{Lengths.Lengths, Lengths.size, Lengths.wide, Lengths.high, Layouts.Layout}
+use Rattle.def_layout.specs.{Layouts.gluing_of, Layouts.vertex_at, Arcs.long_at}
 use Rattle.def_map.specs.declared.spot.Spot.TheVariants.{AtVertex, InFace, OnEdge}
 use Rattle.def_map.specs.{Spots.edge_spot, Spots.face_spot, Spots.spot_at, Spots.spot_of}
 use Rattle.def_map.specs.{declared.spot.EdgeSpot.EdgeSpot, declared.spot.FaceSpot.FaceSpot}
@@ -35,14 +35,9 @@ pub natural : {n : ℕ} → n ≤ 2 ^ 120 → to_z w128 n ≡ pos n
 natural small = omega (arith, ints, small)
 
 -- The size of a product.
-negated : (n : ℕ) → unsigned_abs (neg_ℤ (pos n)) ≡ n
-negated zero = omega arith
-negated (suc n) = omega arith
-
 pub times_few : (k m : ℕ) (z : ℤ) (b : ℕ) → k ≤ m → unsigned_abs z ≤ b → unsigned_abs (pos k *ℤ z) ≤ m * b
 times_few k m (pos n) b k_le z_le = mul-le k n m b k_le z_le
-times_few k m (negsuc n) b k_le z_le =
-    omega (arith, negated (k * suc n), mul-le k (suc n) m b k_le (omega (arith, z_le)))
+times_few k m (negsuc n) b k_le z_le = omega (arith, ints, mul-le k (suc n) m b k_le (omega (arith, z_le)))
 
 -- A number within the bounds of a coordinate.
 abbrev IsMicro : ℤ → Type 0
@@ -76,22 +71,20 @@ blend_micro {s} {t} a b c d s_le t_le a_small b_small c_small d_small =
 -- What the calls of `weighed`, `part_of` and `blend` compute.
 pub weighed_is : {a b f g : ℕ} (n : ℤ) {m : ℤ} → f ≡ a → g ≡ b → m ≡ to_z w64 (of_z w64 n) → a ≤ ONE → b ≤ ONE
     → unsigned_abs n < 2 ^ 52 → (to_z w128 (of_z w128 (to_z w128 (f * g) *ℤ to_z w128 (of_z w128 m))) ≡ pos (a * b) *ℤ
-    n) × (unsigned_abs (pos (a * b) *ℤ n) ≤ 2 ^ 116)
-weighed_is {a} {b} {f} {g} n {m} f_is g_is m_is a_le b_le small =
-    ((λ i. to_z w128 (of_z w128 (weight i *ℤ number i))) ∙ kept (pos (a * b) *ℤ n) (omega (arith, few)), few)
+    n) × (unsigned_abs (to_z w128 (of_z w128 (to_z w128 (f * g) *ℤ to_z w128 (of_z w128 m)))) ≤ 2 ^ 116)
+weighed_is {a} {b} {f} {g} n {m} f_is g_is m_is a_le b_le small = (value, rw value (omega (arith, few)))
   where
     product : a * b ≤ ONE * ONE
     product = mul-le a b ONE ONE a_le b_le
 
-    few : unsigned_abs (pos (a * b) *ℤ n) ≤ 2 ^ 116
-    few = let e : unsigned_abs (pos (a * b) *ℤ n) ≤ (ONE * ONE) * 2 ^ 52 =
-        times_few (a * b) (ONE * ONE) n (2 ^ 52) product (omega arith) in omega (arith, e)
-
-    weight : to_z w128 (f * g) ≡ pos (a * b)
-    weight = (λ i. to_z w128 (f_is i * g_is i)) ∙ natural (omega (arith, product))
+    few : unsigned_abs (pos (a * b) *ℤ n) ≤ (ONE * ONE) * 2 ^ 52
+    few = times_few (a * b) (ONE * ONE) n (2 ^ 52) product (omega arith)
 
     number : to_z w128 (of_z w128 m) ≡ n
     number = omega (arith, ints)
+
+    value : to_z w128 (of_z w128 (to_z w128 (f * g) *ℤ to_z w128 (of_z w128 m))) ≡ pos (a * b) *ℤ n
+    value = rw (f_is, g_is, number, natural {n = a * b} (omega (arith, product))) (kept _ (omega (arith, few)))
 
 pub part_is : (way : ℤ) {q twice one double : ℤ} (some : ℕ) {parts : ℕ} → (some < parts) → parts ≤ ONE
     → unsigned_abs way < 2 ^ 52 → twice ≡ pos (some * 2) *ℤ to_z w64 (of_z w64 way) → one ≡ pos parts
@@ -100,7 +93,7 @@ pub part_is : (way : ℤ) {q twice one double : ℤ} (some : ℕ) {parts : ℕ} 
     (to_z w128 (of_z w128 double)) → (to_z w64 (of_z w64 (to_z w128 (of_z w128 q))) ≡ int_div_euclid
     ((pos (2 * some) *ℤ way) +ℤ pos parts) (pos (2 * parts))) × (unsigned_abs q ≤ 2 ^ 52)
 part_is way {q} {twice} {one} {double} some {parts} less le small twice_is one_is double_is q_is =
-    (ap (λ z. to_z w64 (of_z w64 z)) (kept q (omega (arith, few))) ∙ kept_half q (omega (arith, few)) ∙ quotient, few)
+    (rw (kept q (omega (arith, few)), kept_half q (omega (arith, few))) quotient, few)
   where
     plain : twice ≡ pos (2 * some) *ℤ way
     plain = search rules
@@ -112,11 +105,8 @@ part_is way {q} {twice} {one} {double} some {parts} less le small twice_is one_i
         ≡ (pos (2 * some) *ℤ way) +ℤ pos parts
     sum = omega (arith, ints, plain, twice_few)
 
-    bottom : to_z w128 (of_z w128 double) ≡ pos (2 * parts)
-    bottom = ap (λ z. to_z w128 (of_z w128 z)) double_is ∙ kept (pos (2 * parts)) (omega (arith, ints, le))
-
     quotient : q ≡ int_div_euclid ((pos (2 * some) *ℤ way) +ℤ pos parts) (pos (2 * parts))
-    quotient = q_is ∙ (λ i. int_div_euclid (sum i) (bottom i))
+    quotient = rw (sum, double_is, kept (pos (2 * parts)) (omega (arith, ints, le))) at q_is
 
     few : unsigned_abs q ≤ 2 ^ 52
     few = omega (arith, part_few way less (omega arith), ap unsigned_abs quotient)
@@ -130,42 +120,36 @@ pub sum_is : (a b c d : ℤ) → IsTerm a → IsTerm b → IsTerm c → IsTerm d
     (of_z w128 (to_z w128 (of_z w128 c) +ℤ to_z w128 (of_z w128 d))))) ≡ (a +ℤ b) +ℤ (c +ℤ d)
 sum_is a b c d a_small b_small c_small d_small = omega (arith, ints)
 
-pub sum_fits : (a b c d : ℤ) → IsTerm a → IsTerm b → IsTerm c → IsTerm d → unsigned_abs ((a +ℤ b) +ℤ (c +ℤ d)) ≤ 2 ^ 118
-sum_fits a b c d a_small b_small c_small d_small = omega (arith, ints)
+pub sum_room : (a b c d : ℤ) → IsTerm a → IsTerm b → IsTerm c → IsTerm d
+    → FitsSigned w128 (to_z w128 (of_z w128 (to_z w128 (of_z w128 (to_z w128 (of_z w128 a) +ℤ to_z w128 (of_z w128 b)))
+    +ℤ to_z w128 (of_z w128 (to_z w128 (of_z w128 c) +ℤ to_z w128 (of_z w128 d))))) +ℤ pos (2 ^ 63))
+sum_room a b c d a_small b_small c_small d_small =
+    rw (sum_is a b c d a_small b_small c_small d_small) (omega (arith, ints))
 
--- The four corners with their weights.
-pub record AreWeighed (s t : ℕ) (a b c d wa wb wc wd : ℤ) : Type 0 where
-  pub s_le : s ≤ ONE
-  pub t_le : t ≤ ONE
-  pub a_small : IsMicro a
-  pub b_small : IsMicro b
-  pub c_small : IsMicro c
-  pub d_small : IsMicro d
-  pub a_is : wa ≡ pos ((ONE - s) * (ONE - t)) *ℤ to_z w64 (of_z w64 a)
-  pub b_is : wb ≡ pos (s * (ONE - t)) *ℤ to_z w64 (of_z w64 b)
-  pub c_is : wc ≡ pos ((ONE - s) * t) *ℤ to_z w64 (of_z w64 c)
-  pub d_is : wd ≡ pos (s * t) *ℤ to_z w64 (of_z w64 d)
-  pub a_short : unsigned_abs wa ≤ 2 ^ 116
-  pub b_short : unsigned_abs wb ≤ 2 ^ 116
-  pub c_short : unsigned_abs wc ≤ 2 ^ 116
-  pub d_short : unsigned_abs wd ≤ 2 ^ 116
+-- A corner with its weight.
+pub record IsWeighed (weight : ℕ) (corner product : ℤ) : Type 0 where
+  pub small : IsMicro corner
+  pub is : product ≡ pos weight *ℤ to_z w64 (of_z w64 corner)
+  pub short : IsTerm product
 
-pub mean_is : {s t : ℕ} {a : ℤ} {b c d wa wb wc wd mean : ℤ} → AreWeighed s t a b c d wa wb wc wd
+pub mean_is : (s t : ℕ) {a b c d wa wb wc wd mean : ℤ} → IsWeighed ((ONE - s) * (ONE - t)) a wa
+    → IsWeighed (s * (ONE - t)) b wb → IsWeighed ((ONE - s) * t) c wc → IsWeighed (s * t) d wd
     → mean ≡ int_div_euclid (to_z w128
     (of_z w128 (to_z w128 (of_z w128 (to_z w128 (of_z w128 (to_z w128 (of_z w128 wa) +ℤ to_z w128 (of_z w128 wb)))
     +ℤ to_z w128 (of_z w128 (to_z w128 (of_z w128 wc) +ℤ to_z w128 (of_z w128 wd))))) +ℤ pos (2 ^ 63)))) (pos (2 ^ 64))
     → mean ≡ blend s t a b c d
-mean_is {s} {t} {a} {b} {c} {d} {wa} {wb} {wc} {wd} are is =
-    is ∙ (λ i. int_div_euclid
-    (to_z w128 (of_z w128 (sum_is wa wb wc wd are.a_short are.b_short are.c_short are.d_short i +ℤ pos (2 ^ 63))))
-    (pos (2 ^ 64))) ∙ ap (λ z. int_div_euclid z (pos (2 ^ 64))) (kept (((wa +ℤ wb) +ℤ (wc +ℤ wd)) +ℤ pos (2 ^ 63))
-    (omega (arith, ints, sum_fits wa wb wc wd are.a_short are.b_short are.c_short are.d_short)))
-    ∙ (λ i. int_div_euclid (((term a wa ((ONE - s) * (ONE - t)) are.a_small are.a_is i +ℤ term b wb (s * (ONE - t))
-    are.b_small are.b_is i) +ℤ (term c wc ((ONE - s) * t) are.c_small are.c_is i +ℤ term d wd (s * t) are.d_small
-    are.d_is i)) +ℤ pos (2 ^ 63)) (pos (2 ^ 64)))
+mean_is s t {wa = wa} {wb} {wc} {wd} of_a of_b of_c of_d is = is ∙ rw (
+  sum_is wa wb wc wd of_a.short of_b.short of_c.short of_d.short,
+  kept (((wa +ℤ wb) +ℤ (wc +ℤ wd)) +ℤ pos (2 ^ 63))
+      (omega (arith, ints, of_a.short, of_b.short, of_c.short, of_d.short)),
+  term of_a,
+  term of_b,
+  term of_c,
+  term of_d,
+)
   where
-    term : (z w : ℤ) (k : ℕ) → IsMicro z → w ≡ pos k *ℤ to_z w64 (of_z w64 z) → w ≡ pos k *ℤ z
-    term z w k small same = same ∙ ap (λ n. pos k *ℤ n) (kept_half z (omega arith))
+    term : {k : ℕ} {z w : ℤ} → IsWeighed k z w → w ≡ pos k *ℤ z
+    term {k} {z} of = of.is ∙ ap (λ n. pos k *ℤ n) (kept_half z (omega arith))
 
 -- A coordinate that is cast.
 pub cast_micro : (z : ℤ) → IsMicro z → to_z w64 (of_z w64 (to_z w128 (of_z w128 z))) ≡ z
@@ -173,13 +157,11 @@ cast_micro z small = omega (arith, ints)
 
 -- Where the vertices of the new mesh lie, as the tables tell.
 
-module _ (layout : Layout) (shares : Option (List ℕ)) (new : Lengths) where
+module _ (layout : Layout) (new : Lengths) where
   -- Where a number of a vertex leads.
   pub on_arc : {place arc : ℕ} → place < before_arc new (length layout.arcs)
       → arc ≡ run_at (before_arc new) (length layout.arcs) place → IsAlong layout new arc place
-  on_arc {place} low same =
-      let here = run_here (λ b. new b - 1) _ place low in
-      rw same (record { low = here.low; from = omega arith; upto = omega arith })
+  on_arc {place} low same = let here = run_here (λ b. new b - 1) _ place low in rw same (omega arith)
 
   pub in_patch : {place patch : ℕ} → place < before_patch (gluing_of layout) new (length layout.patches) → patch
       ≡ run_at (before_patch (gluing_of layout) new) (length layout.patches) place → IsInside layout new patch place
@@ -188,15 +170,9 @@ module _ (layout : Layout) (shares : Option (List ℕ)) (new : Lengths) where
       let p = run_at (before_patch l new) (length layout.patches) place in
       let here = run_here (λ q. (wide l new q - 1) * (high l new q - 1)) _ place low in
       let less = subst (λ n. place - before_patch l new p < n) (mul_comm _ _) here.inside in
-      let rows = in_rows _ _ _ less in
-      rw same (record {
-        low = here.low;
-        from = omega arith;
-        column = omega arith;
-        row = omega arith;
-        some = omega arith;
-      })
+      let rows = in_rows _ _ _ less in rw same (omega arith)
 
+module _ (layout : Layout) (shares : Option (List ℕ)) (new : Lengths) where
   -- A node, by its number.
   pub found_at : {v u : ℕ} → v < length layout.nodes → u ≡ vertex_at layout v → AtVertex u ≡ spot_at layout shares new v
   found_at {v} low same = search rules
@@ -218,21 +194,20 @@ module _ (layout : Layout) (shares : Option (List ℕ)) (new : Lengths) where
   found_in {v} {place} from place_is same spot_is = search rules
 
 -- Edges are divided in few parts.
-pub short_step : {layout : Layout} (shares : Option (List ℕ)) {new : Lengths} → IsSomeLayout layout
-    → AreLengths (gluing_of layout) new → ((arc : ℕ) → arc < length layout.arcs → new arc ≤ 2 ^ 24)
-    → {arc k : ℕ} → arc < length layout.arcs → k < new arc → ((spacing_by layout shares new).step arc k).parts ≤ ONE
-short_step h1 h2 h3 h4 h5 h6 = search rules
+short_step : (layout : Layout) (shares : Option (List ℕ)) (new : Lengths) (arc k : ℕ) → new arc ≤ 2 ^ 24
+    → ((spacing_by layout shares new).step arc k).parts ≤ ONE
+short_step layout shares new arc k few = search rules
 
-pub short_spot : {layout : Layout} (shares : Option (List ℕ)) {new : Lengths} → IsSomeLayout layout
-    → AreLengths (gluing_of layout) new → ((arc : ℕ) → arc < length layout.arcs → new arc ≤ 2 ^ 24) → {v : ℕ}
-    → v < vertices (gluing_of layout) new → IsShort (spot_at layout shares new v)
-short_spot {layout} shares {new} is len short {v} low =
+pub short_spot : (layout : Layout) (shares : Option (List ℕ)) {new : Lengths}
+    → ((arc : ℕ) → arc < length layout.arcs → new arc ≤ 2 ^ 24) → {v : ℕ} → v < vertices (gluing_of layout) new
+    → IsShort (spot_at layout shares new v)
+short_spot layout shares {new} short {v} low =
     by_point (point_at (gluing_of layout) new v) (is_point (gluing_of layout) new v low)
   where
     by_point : (a : Point) → IsPoint (gluing_of layout) new a
         → IsShort (spot_of layout new (spacing_by layout shares new) a)
     by_point (node n) is_a = tt
-    by_point (along arc k) is_a = short_step shares is len short is_a.0 is_a.2
+    by_point (along arc k) is_a = short_step layout shares new arc k (short arc is_a.0)
     by_point (inside p i j) is_a = tt
 
 module _ (faces : Faces) (layout : Layout) (tables : PlaceTables) (are : ArePlaces faces layout tables) where
@@ -252,11 +227,16 @@ module _ (faces : Faces) (layout : Layout) (tables : PlaceTables) (are : ArePlac
   is = are.laid_out.0
 
   -- All numbers are small.
-  few_points : vertices (gluing_of layout) (lengths_in tables.lengths.items) ≤ 2 ^ 23
+  few_points : vertices l new ≤ 2 ^ 23
   few_points = omega (arith, vertices_few l new (laid_of layout is) are.lengths)
 
-  spaced : IsSpacing (gluing_of layout) (long_at layout.arcs) (lengths_in tables.lengths.items)
-      (spacing_in layout tables)
+  short : (arc : ℕ) → arc < length layout.arcs → new arc ≤ 2 ^ 24
+  short arc low = omega (arith, term_room (λ b. new b - 1) (length layout.arcs) arc low, few_points)
+
+  few : (s : Way) (p : ℕ) → p < length layout.patches → size l new p s ≤ 2 ^ 21
+  few s p low = omega (arith, side_few l new (laid_of layout is) are.lengths p s low)
+
+  spaced : IsSpacing l old new spacing
   spaced = spacing_is layout is new are.lengths are.few _
 
   -- What is read of the tables.
@@ -278,8 +258,8 @@ module _ (faces : Faces) (layout : Layout) (tables : PlaceTables) (are : ArePlac
       let back = back_end l old new spacing (laid_of layout is) (lengths_of layout is) are.lengths spaced p in
       record {
         south = ahead south low;
-        east = ap (parameter l old new spacing p east) (sym (are.lengths.upright p low)) ∙ ahead east low ∙ omega arith;
-        north = ap (parameter_back l old new spacing p north) (sym (are.lengths.across p low)) ∙ back north low;
+        east = rw (← are.lengths.upright p low) (ahead east low ∙ omega arith);
+        north = rw (← are.lengths.across p low) (back north low);
         west = back west low;
       }
 
@@ -287,29 +267,15 @@ module _ (faces : Faces) (layout : Layout) (tables : PlaceTables) (are : ArePlac
       → IsSmall (grid_point layout new spacing p i j)
   small_of p i j low i_le j_le =
       let laid = laid_of layout is in
-      let long = lengths_of layout is in
-      let u = u_upto l old new spacing laid long are.lengths spaced p i j low i_le j_le in
-      let v = v_upto l old new spacing laid long are.lengths spaced p i j low i_le j_le in
-      (omega (arith, u, old_few is south low), omega (arith, v, old_few is west low))
+      let long = lengths_of layout is in omega (
+        arith,
+        u_upto l old new spacing laid long are.lengths spaced p i j low i_le j_le,
+        v_upto l old new spacing laid long are.lengths spaced p i j low i_le j_le,
+        old_few is south low,
+        old_few is west low,
+      )
 
   pub placed_of : ArePlaced layout tables
-  placed_of = record {
-    arcs = old_short layout is;
-    darts = even_edge l old new (lengths_of layout is) are.lengths;
-    patches = sized;
-    long = are.long;
-    lengths = are.lengths;
-    few = few_points;
-    few_faces = are.few;
-    short = λ arc low. omega (arith, term_room (λ b. new b - 1) (length layout.arcs) arc low, few_points);
-    narrow = λ p low. omega (arith, side_few l new (laid_of layout is) are.lengths p south low);
-    low = λ p low. omega (arith, side_few l new (laid_of layout is) are.lengths p west low);
-    along = are.along;
-    inside = are.inside;
-    spaced = are.spaced;
-    spacing = spaced;
-    rimmed = are.rimmed;
-    rims = are.rims;
-    ends = ends_of;
-    small = small_of;
-  }
+  placed_of =
+      let darts = even_edge l old new (lengths_of layout is) are.lengths in
+      assumption (old_short layout is, darts, sized, few_points, short, few south, few west, spaced, ends_of, small_of)

@@ -1,16 +1,16 @@
 -- What is read of the tables and of the layout.
-use Rattle.std.proofs.Common.{rules, ◌≡◌, ℕ, ◌+◌, ◌-◌, ◌*◌, ◌<◌, ◌≤◌, List, [], length, get_or, sym, ◌∙◌, ap, arith}
-use Rattle.std.proofs.Common.{◌^◌}
-use Rattle.std.proofs.{lemmas.List.get_or_read, lemmas.List.get_or-map, lemmas.List.length-map, lemmas.Nat.mul-le}
-use Rattle.def_cut.specs.{Grids.Rectangle, Grids.cell_of, Grids.patch_at, Grids.rectangle, declared.patch.Patch.Patch}
-use Rattle.def_layout.specs.{Arcs.dart_at, Arcs.long_at, Arcs.path, Layouts.Layout, Layouts.gluing_of}
-use Rattle.def_layout.specs.{Layouts.layout_of, Gluings.west, Lengths.wide, Lengths.high, declared.tmesh.TArc.TArc}
-use Rattle.def_layout.specs.{declared.tmesh.TMesh.TMesh}
-use Rattle.def_remesh.specs.{Placings.rim_at, Placings.spacing_in, Placings.IsRim, NewPoints.lengths_in}
-use Rattle.def_remesh.specs.{Numberings.AreRunStarts, declared.places.PlaceTables.PlaceTables, declared.places.Rim.Rim}
-use Rattle.qm_place.specs.{Placed.ArePlaced, Spots.HasRoom, Spots.IsOnGrid}
-use Rattle.{std.specs.Prelude.slice_index, def_written.specs.Numbers.before_patch, def_math.specs.Counts.count_below}
-use Rattle.{qm_place.proofs.Rims.old_read}
+use Rattle.std.proofs.Common.{rules, ◌≡◌, ℕ, ◌+◌, ◌-◌, ◌*◌, ◌<◌, ◌≤◌, List, length, get_or, sym, ◌∙◌, ap, arith, ◌^◌}
+use Rattle.std.proofs.lemmas.{List.get_or_read, List.get_or-map, List.length-map, Nat.mul-le}
+use Rattle.def_cut.specs.Grids.{Rectangle, cell_of, patch_at, rectangle}
+use Rattle.{def_cut.specs.declared.patch.Patch.Patch, def_remesh.specs.declared.places.PlaceTables.PlaceTables}
+use Rattle.def_layout.specs.{Arcs.dart_at, Arcs.long_at, Arcs.path, declared.tmesh.TMesh.TMesh}
+use Rattle.def_layout.specs.{Layouts.Layout, Layouts.gluing_of, Layouts.layout_of, declared.tmesh.TArc.TArc}
+use Rattle.def_layout.specs.{Gluings.west, Lengths.wide, Lengths.high, Gluings.Way, Lengths.Lengths, Lengths.size}
+use Rattle.def_remesh.specs.Placings.{rim_at, spacing_in, IsRim, side_parameter, AreParameters}
+use Rattle.def_remesh.specs.{NewPoints.lengths_in, Numberings.AreRunStarts, declared.places.Rim.Rim}
+use Rattle.{def_written.specs.Places.ArcSpacing, qm_place.specs.Placed.ArePlaced, def_math.specs.Counts.count_below}
+use Rattle.{qm_place.specs.Spots.HasRoom, qm_place.specs.Spots.IsOnGrid, def_written.specs.Numbers.before_patch}
+use Rattle.{std.specs.Prelude.slice_index, qm_place.proofs.Rims.old_read}
 
 -- Where a run begins.
 pub start_read : {f : ℕ → ℕ} {n : ℕ} {k v : ℕ} {starts : List ℕ} → AreRunStarts f n starts → k < n → v
@@ -29,10 +29,8 @@ pub record IsOldArc (t : TMesh) (a : ℕ) (arc : TArc) : Type 0 where
 
 pub arc_read : (t : TMesh) {tables : PlaceTables} {a : ℕ} {arc : TArc} → ArePlaced (layout_of t) tables
     → a < length t.arcs.items → arc ≡ get_or t.arcs.items a arc → IsOldArc t a arc
-arc_read t {a} {arc} is low read = record { long = old_read t low read; short = is.arcs a a_low }
-  where
-    a_low : a < length (layout_of t).arcs
-    a_low = omega (arith, length-map t.arcs.items path)
+arc_read t {a} is low read =
+    record { long = old_read t low read; short = is.arcs a (omega (arith, length-map t.arcs.items path)) }
 
 -- A patch.
 pub record IsOldPatch (t : TMesh) (p : ℕ) (patch : Patch) : Type 0 where
@@ -50,19 +48,10 @@ pub patch_read : (t : TMesh) {tables : PlaceTables} {p : ℕ} {patch : Patch} �
 patch_read t {p = p} {patch = patch} is low read =
     let sized = is.patches p (omega (arith, length-map t.patches.items rectangle)) in
     let same : rectangle patch ≡ patch_at (layout_of t).patches p =
-    ap rectangle read ∙ sym (get_or-map rectangle _ p patch (record { w = 0; h = 0; cells = [] }) low) in
+    ap rectangle read ∙ sym (get_or-map rectangle _ p patch _ low) in
     let wide_is = ap (λ (r : Rectangle). r.w) same ∙ sized.width in
     let high_is = ap (λ (r : Rectangle). r.h) same ∙ sized.height in
-    record {
-      same = same;
-      wide = wide_is;
-      high = high_is;
-      some = omega arith;
-      tall = omega arith;
-      few_columns = omega (arith, sized.few_columns);
-      few_rows = omega (arith, sized.few_rows);
-      cells = ap (λ (r : Rectangle). length r.cells) same ∙ sized.cells ∙ (λ k. (sym same k).h * (sym same k).w);
-    }
+    let cells = rw (← same) at sized.cells in search (rules, arith)
 
 -- A cell of a patch.
 pub cell_low : {t : TMesh} {p : ℕ} {a b : ℕ} {patch : Patch} → IsOldPatch t p patch → a < patch.w → b < patch.h
@@ -106,11 +95,12 @@ pub rim_room : {layout : Layout} (tables : PlaceTables) {p : ℕ} {rim : Rim} {l
 rim_room tables low is same = omega (arith, (is.sides west).room, ap (λ (xs : List ℕ). length xs) same)
 
 -- The parameter of a place of a side, which stands in the list or is that of the end of the side.
-pub place_read : (list : List ℕ) (begin : ℕ) (f : ℕ → ℕ) {places place size r end : ℕ}
-    → (place < places → r ≡ slice_index list (begin + place)) → (places ≤ place → r ≡ end)
-    → ((k : ℕ) → k < size → slice_index list (begin + k) ≡ f k) → places ≡ size → place ≤ size → end ≡ f size
-    → r ≡ f place
-place_read list begin f {places} {place} before last each size_is upto end_is = search rules
+pub side_read : (layout : Layout) (new : Lengths) (spacing : ArcSpacing) (p : ℕ) (s : Way) {list : List ℕ}
+    {begin places place r end n : ℕ} → (place < places → r ≡ slice_index list (begin + place))
+    → (places ≤ place → r ≡ end) → AreParameters layout new spacing p s begin list
+    → size (gluing_of layout) new p s ≡ n → places ≡ n → place ≤ n → end ≡ side_parameter layout new spacing p s n
+    → r ≡ side_parameter layout new spacing p s place
+side_read layout new spacing p s before last is size_is places_are upto end_is = search (rules, is.each)
 
 -- Where the last run ends.
 pub end_read : {f : ℕ → ℕ} {n : ℕ} {len v : ℕ} {starts : List ℕ} → AreRunStarts f n starts → len ≡ length starts

@@ -1,11 +1,11 @@
 -- The tables that are built tell the places.
 use Rattle.std.proofs.Common.{rules, ◌≡◌, ℕ, ◌-◌, ◌*◌, ◌^◌, ◌<◌, List, length, ap, arith, ◌+◌, ◌/◌, ◌≤◌, Bool, true}
-use Rattle.std.proofs.Common.{false, cond, [], ◌∷◌, ◌++◌, length-append, sym, ◌∙◌, inl, inr}
+use Rattle.std.proofs.Common.{false, cond, [], ◌∷◌, ◌++◌, length-append, ◌∙◌}
 use Rattle.std.proofs.{lemmas.Bool.cases_lt, lemmas.List.get_or_append_left, lemmas.List.get_or_push}
 use Rattle.def_layout.specs.Gluings.{Way, south, east, north, west, Gluing, IsSlot}
 use Rattle.def_layout.specs.{Lengths.wide, Lengths.high, Lengths.Lengths, Lengths.reach, Lengths.size, Layouts.Layout}
-use Rattle.def_layout.specs.{Layouts.gluing_of, Arcs.long_at, declared.tmesh.SideArc.SideArc}
-use Rattle.def_written.specs.{Places.ArcSpacing, Places.ONE, Places.parameter, Places.parameter_back, Points.use_over}
+use Rattle.def_layout.specs.{Layouts.gluing_of, Arcs.long_at}
+use Rattle.def_written.specs.{Places.ArcSpacing, Places.ONE, Points.use_over}
 use Rattle.def_remesh.specs.{Placings.rim_at, Placings.IsRim, Placings.side_parameter, Placings.AreParameters}
 use Rattle.def_remesh.specs.{NewPoints.lengths_in, Numberings.AreRunStarts, declared.places.Rim.Rim}
 use Rattle.qm_offsets.proofs.Spots.{starts_same, term_room}
@@ -20,7 +20,7 @@ module _ {layout : Layout} {list : List ℕ} (fine : AreFine layout list) where
       omega (arith, term_room (λ a. lengths_in list a - 1) (length layout.arcs) arc (omega (arith, low, fine.long)))
 
   -- How many points lie in a patch.
-  abbrev inner : ℕ → ℕ
+  abbrev pub inner : ℕ → ℕ
   inner p = (wide (gluing_of layout) (lengths_in list) p - 1) * (high (gluing_of layout) (lengths_in list) p - 1)
 
   module _ {spacing : ArcSpacing} (rims : List Rim) {parameters : List ℕ} {count : ℕ} (all : count
@@ -29,10 +29,11 @@ module _ {layout : Layout} {list : List ℕ} (fine : AreFine layout list) where
     -- Patches are not empty.
     pub rims_some : (p : ℕ) → p < count → (0 < (rim_at rims p).wide) × (0 < (rim_at rims p).high)
     rims_some p low =
-        let at : p < length layout.patches = omega arith in
-        let paved = fine.whole.paved in (
-          omega (arith, (are p low).wide, wide_some (gluing_of layout) (lengths_in list) paved fine.lengths p at),
-          omega (arith, (are p low).high, high_some (gluing_of layout) (lengths_in list) paved fine.lengths p at),
+        let at : p < length layout.patches = omega arith in omega (
+          arith,
+          are p low,
+          wide_some _ _ fine.whole.paved fine.lengths p at,
+          high_some _ _ fine.whole.paved fine.lengths p at,
         )
 
     inner_is : (p : ℕ) → p < count → inner_of rims p ≡ inner p
@@ -42,8 +43,7 @@ module _ {layout : Layout} {list : List ℕ} (fine : AreFine layout list) where
     inner_short = omega (arith, ap (count_below inner) all, count_below_same (inner_of rims) inner count inner_is)
 
     pub inner_starts : {starts : List ℕ} → AreRunStarts (inner_of rims) count starts
-        → AreRunStarts (λ p. (wide (gluing_of layout) (lengths_in list) p - 1) *
-        (high (gluing_of layout) (lengths_in list) p - 1)) (length layout.patches) starts
+        → AreRunStarts inner (length layout.patches) starts
     inner_starts begin = rw (← all) (starts_same (inner_of rims) inner count _ inner_is begin)
 
 -- Lists that grow at their end, and the parameters of a side that are put there arc by arc.
@@ -53,23 +53,17 @@ pub pushed_join : {a b c : List ℕ} {n : ℕ} {m : ℕ} {f : ℕ → ℕ} {g : 
 pushed_join {a} {b} {c} {n} {f} p q same = record {
   long = omega arith;
   kept = λ k low. q.kept k (omega arith) ∙ p.kept k low;
-  each = λ k low. elim (cases_lt k n) [
-    | inl less ↦ q.kept _ (omega arith) ∙ p.each k less
-    | inr more ↦
-        let place : length a + k ≡ length b + (k - n) = omega arith in
-        let there : n + (k - n) ≡ k = omega arith in
-        ap (slice_index c) place ∙ q.each _ (omega arith) ∙ same _ (omega arith) ∙ ap f there
-  ];
+  each = λ k low. grind (arith, cases_lt k n, p.each k, q.kept (length a + k), q.each (k - n), same (k - n));
 }
 
 -- Another number behind them.
 pub pushed_more : {z a b : List ℕ} {n : ℕ} {x : ℕ} {f : ℕ → ℕ} → ArePushed z a n f → b ≡ a ++ x ∷ [] → x ≡ f n
     → ArePushed z b (n + 1) f
-pushed_more {z} {a} {b} {n} {x} {f} p same value = pushed_join p (record {
-  long = ap length same ∙ length-append a _;
-  kept = λ k low. ap (λ (xs : List ℕ). slice_index xs k) same ∙ get_or_append_left a _ 0 k low;
-  each = λ k low. ap (λ (xs : List ℕ). slice_index xs (length a + k)) same ∙ get_or_push a x 0 _ (omega arith);
-}) (λ k low. let none : n ≡ n + k = omega arith in value ∙ ap f none)
+pushed_more {z} {a} {b} {n} {x} {f} p same value = rw same (pushed_join p (record {
+  long = length-append a _;
+  kept = get_or_append_left a _ 0;
+  each = λ k low. get_or_push a x 0 _ (omega arith);
+}) (λ k low. grind (arith, value)))
 
 pub pushed_kept : {a b : List ℕ} {n : ℕ} {f : ℕ → ℕ} → ArePushed a b n f → IsKept a b
 pushed_kept p = record { long = omega arith; kept = p.kept }
@@ -94,31 +88,6 @@ is_back east = false
 is_back north = true
 is_back west = true
 
-module _ (l : Gluing) (old new : Lengths) (spacing : ArcSpacing) (p i : ℕ) (s : Way) (is : IsSlot l (slot p s i))
-    (o : ℕ) (low : o < new (l.use_at p s i).arc) where
-  over : use_over l new p s (reach l new p s i + o) ≡ i
-  over = over_is l new (slot p s i) o is low
-
-  abbrev used : SideArc
-  used = l.use_at p s i
-
-  ahead : parameter l old new spacing p s (reach l new p s i + o)
-      ≡ on_arc spacing (reach l old p s i) (new used.arc) used false o
-  ahead = search (rules, over)
-
-  behind : parameter_back l old new spacing p s (reach l new p s i + o)
-      ≡ on_arc spacing (size l old p s - reach l old p s i - old used.arc) (new used.arc) used true o
-  behind = search (rules, over)
-
-  -- The parameter of a place of the arc at a slot, counted along the side or against it.
-  pub along_slot : {start : ℕ} → start ≡ reach l old p s i
-      → on_arc spacing start (new used.arc) used false o ≡ parameter l old new spacing p s (reach l new p s i + o)
-  along_slot e = ap (λ n. on_arc spacing n (new used.arc) used false o) e ∙ sym ahead
-
-  pub against_slot : {start : ℕ} → start ≡ size l old p s - reach l old p s i - old used.arc
-      → on_arc spacing start (new used.arc) used true o ≡ parameter_back l old new spacing p s (reach l new p s i + o)
-  against_slot e = ap (λ n. on_arc spacing n (new used.arc) used true o) e ∙ sym behind
-
 -- Where the parameters of the arc at a slot begin: so much of the side lies before the arc, counted from the same end.
 abbrev pub start_by : (l : Gluing) (old : Lengths) (p i : ℕ) (s : Way) → ℕ
 start_by l old p i s = cond (is_back s) (size l old p s - reach l old p s i - old (l.use_at p s i).arc)
@@ -128,13 +97,16 @@ module _ (layout : Layout) (new : Lengths) (spacing : ArcSpacing) (p i : ℕ) wh
   abbrev l : Gluing
   l = gluing_of layout
 
-  abbrev old : Lengths
-  old = long_at layout.arcs
+  over : (s : Way) (o : ℕ) → IsSlot l (slot p s i) → o < new (l.use_at p s i).arc
+      → use_over l new p s (reach l new p s i + o) ≡ i
+  over s o is low = over_is l new (slot p s i) o is low
 
+  -- The parameter of a place of the arc at a slot, counted along the side or against it.
   pub slot_parameter : (s : Way) → IsSlot l (slot p s i) → {o start : ℕ} → o < new (l.use_at p s i).arc
-      → start ≡ start_by l old p i s → on_arc spacing start (new (l.use_at p s i).arc) (l.use_at p s i) (is_back s) o
+      → start ≡ start_by l (long_at layout.arcs) p i s
+      → on_arc spacing start (new (l.use_at p s i).arc) (l.use_at p s i) (is_back s) o
       ≡ side_parameter layout new spacing p s (reach l new p s i + o)
-  slot_parameter south is {o} {start} low e = along_slot l old new spacing p i south is o low e
-  slot_parameter east is {o} {start} low e = along_slot l old new spacing p i east is o low e
-  slot_parameter north is {o} {start} low e = against_slot l old new spacing p i north is o low e
-  slot_parameter west is {o} {start} low e = against_slot l old new spacing p i west is o low e
+  slot_parameter south is low e = search (rules, over, e)
+  slot_parameter east is low e = search (rules, over, e)
+  slot_parameter north is low e = search (rules, over, e)
+  slot_parameter west is low e = search (rules, over, e)

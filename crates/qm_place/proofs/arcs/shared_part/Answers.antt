@@ -1,9 +1,8 @@
 use Rattle.std.proofs.Common.{rules, ◌≡◌, ◌+◌, ◌-◌, ◌<◌, true, length, ap, arith}
-use Rattle.std.proofs.lemmas.List.{length-map}
-use Rattle.def_remesh.specs.{NewPoints.lengths_in, Placings.shares_in}
-use Rattle.qm_place.proofs.{Rims.inner_low, Rims.points_few, Rims.read_inner, Entries.start_read}
-use Rattle.qm_place.proofs.{arcs.shared_part.Goals.Else-k-places, arcs.shared_part.Goals.After-index-2}
-use Rattle.{def_layout.specs.Arcs.path, def_layout.specs.Layouts.layout_of, def_written.specs.Numbers.before_arc}
+use Rattle.{std.proofs.lemmas.List.length-map, qm_place.proofs.Entries.start_read, def_layout.specs.Layouts.layout_of}
+use Rattle.{def_remesh.specs.NewPoints.lengths_in, written_laws.proofs.Spacings.place_low, def_layout.specs.Arcs.path}
+use Rattle.{def_remesh.specs.Placings.shares_in, qm_place.proofs.Rims.read_inner, def_written.specs.Numbers.before_arc}
+use Rattle.qm_place.proofs.{Rims.inner_low, arcs.shared_part.Goals.Else-k-places, arcs.shared_part.Goals.After-index-2}
 use Rattle.qm_place.proofs.arcs.shared_part.Goals as goal
 
 -- The arc is one of the layout, and the place is inside.
@@ -22,7 +21,10 @@ index c =
 pub overflow_add-index : goal.overflow_add-index
 overflow_add-index c =
     let at = there (goal.at.overflow_add-index c).Else-k-places in
-    let few = points_few c.args.places.now.fine {place = c.args.k - 1} at.0 (omega (arith, at.1, at.2)) in
+    let x = lengths_in c.args.places.now.lengths.now in
+    let layout = layout_of c.args.places.now.t.now in
+    let few = place_low (λ b. x b - 1) (length layout.arcs) c.args.arc (c.args.k - 1) at.0
+    (omega (arith, at.1, at.2)) in
     omega (arith, index (goal.at.overflow_add-index c).After-index-2, at.1, few)
 
 pub index-requires-3 : goal.index-requires-3

@@ -1,7 +1,6 @@
-use Rattle.def_layout.specs.{Layouts.gluing_of, Layouts.way_number, Layouts.layout_of, Arcs.long_at, Gluings.Way}
-use Rattle.def_layout.specs.{Lengths.reach}
-use Rattle.def_remesh.specs.{NewPoints.lengths_in, Placings.side_parameter}
-use Rattle.{std.proofs.Common.◌≡◌, qm_place.specs.OnArcs.spacing_on, qm_place.specs.Pushed.ArePushed}
+use Rattle.def_layout.specs.{Layouts.gluing_of, Layouts.way_number, Layouts.layout_of, Arcs.long_at, Lengths.reach}
+use Rattle.{def_layout.specs.Gluings.Way, qm_place.specs.OnArcs.spacing_on, qm_place.specs.Pushed.ArePushed}
+use Rattle.{def_remesh.specs.NewPoints.lengths_in, def_remesh.specs.Placings.side_parameter, std.proofs.Common.◌≡◌}
 
 abbrev pub invariant-loop-used : Rattle.qm_place.proofs.sides.push_side.Given.invariant-loop-used
 invariant-loop-used l = record {

@@ -1,24 +1,21 @@
-use Rattle.std.proofs.Common.{rules, ◌≡◌, ◌+◌, ◌-◌, ◌<◌, true, length, arith}
+use Rattle.std.proofs.Common.{rules, ◌≡◌, ◌+◌, ◌-◌, true, arith}
 use Rattle.{std.proofs.lemmas.List.get_or_read, def_written.specs.Numbers.before_arc}
 use Rattle.qm_place.specs.Lengthened.{lengths_by, spacing_at}
 use Rattle.qm_place.proofs.spots.along_spot.Goals.{In-Some, After-index, After-index-in-None, After-index-in-None-2}
 use Rattle.qm_place.proofs.{Rims.inner_low, Rims.read_inner, Rims.spot_told, Entries.start_read}
 use Rattle.qm_place.proofs.spots.along_spot.Goals as goal
 
--- The place in the table of the point.
-low : (c : In-Some) → before_arc (lengths_by c.args.placed.now) c.args.arc
-    + (c.args.place - before_arc (lengths_by c.args.placed.now) c.args.arc + 1) - 1
-    < length c.in-Some.spaced.parameters.items
-low c =
-    let placed = c.args.placed.now in
-    inner_low _ _ placed.placed.spaced c.in-Some.is c.requires.along.low (omega arith) c.requires.along.upto
-
+-- What is read of the table of the points.
 value : (c : After-index) → c.index.result.now ≡ (spacing_at c.args.placed.now).parameter_of c.args.arc true
     (c.args.place - before_arc (lengths_by c.args.placed.now) c.args.arc + 1)
 value c = search (rules, read_inner)
 
 pub index-requires : goal.index-requires
-index-requires c = omega (arith, low (goal.at.index-requires c).In-Some)
+index-requires c =
+    let placed = c.args.placed.now.placed in omega (
+      arith,
+      inner_low _ _ placed.spaced c.in-Some.is c.requires.along.low (omega arith) c.requires.along.upto,
+    )
 
 pub shared_spot-requires-clause-low : goal.shared_spot-requires-clause-low
 shared_spot-requires-clause-low c =

@@ -1,6 +1,5 @@
-use Rattle.std.proofs.Common.{◌≡◌, ap, arith}
-use Rattle.qm_place.specs.{Lengthened.layout_in, Lengthened.lengths_by, Lengthened.spacing_at, Spots.grid_point}
-use Rattle.qm_place.specs.declared.spots.GridPoint.{GridPoint}
+use Rattle.std.proofs.Common.{sym, subst, arith}
+use Rattle.qm_place.specs.{Lengthened.layout_in, Lengthened.lengths_by, Lengthened.spacing_at, Spots.IsSmall}
 use Rattle.qm_place.proofs.Entries.{patch_read, rim_here, rim_room}
 use Rattle.qm_place.proofs.spots.grid_point.Goals as goal
 
@@ -12,11 +11,8 @@ invariant_of-at c =
       grid = rw rim.same c.requires.grid;
     }
 
--- The point that is read.
-point_is : (c : goal.After-upright-v) → ◌≡◌ {A = GridPoint} (record { u = c.across-u.result; v = c.upright-v.result })
-    (grid_point (layout_in c.args.placed.now) (lengths_by c.args.placed.now) (spacing_at c.args.placed.now) c.args.patch
-    c.args.i c.args.j)
-point_is c =
+pub returns-clause-value : goal.returns-clause-value
+returns-clause-value c =
     let placed = c.args.placed.now in
     let rim = rim_here placed.t.now placed.placed c.requires.patch c.index-rim.ensures in
     let old = patch_read placed.t.now placed.placed c.requires.patch c.index-old.ensures in
@@ -27,13 +23,8 @@ point_is c =
           placed.placed.lengths (rw c.deref.ensures.value rim.is) ends old.high k;
     }
 
-pub returns-clause-value : goal.returns-clause-value
-returns-clause-value c = point_is c
-
 pub returns-clause-small : goal.returns-clause-small
 returns-clause-small c =
     let rim = rim_here c.args.placed.now.t.now c.args.placed.now.placed c.requires.patch c.index-rim.ensures in
-    let small = c.args.placed.now.placed.small c.args.patch c.args.i c.args.j rim.low (omega arith) (omega arith) in (
-      omega (arith, ap (λ (p : GridPoint). p.u) (point_is c), small.0),
-      omega (arith, ap (λ (p : GridPoint). p.v) (point_is c), small.1),
-    )
+    subst IsSmall (sym (returns-clause-value c))
+    (c.args.placed.now.placed.small c.args.patch c.args.i c.args.j rim.low (omega arith) (omega arith))

@@ -1,4 +1,4 @@
-use Rattle.std.proofs.Common.{rules, ◌≡◌, ◌*◌, length, arith}
+use Rattle.std.proofs.Common.{rules, ◌*◌, length, arith}
 use Rattle.def_layout.specs.{Lengths.wide, Lengths.high, Layouts.gluing_of, Layouts.layout_of}
 use Rattle.qm_place.proofs.{Entries.rim_here, Entries.IsRimRead, placed.Placed.rim.Goals.After-index}
 use Rattle.{def_remesh.specs.NewPoints.lengths_in, qm_offsets.proofs.Spots.term_room}
@@ -13,14 +13,12 @@ returns-clause-few c =
     let l = gluing_of (layout_of placed.t.now) in
     let x = lengths_in placed.tables.now.lengths.items in
     let at = read (goal.at.returns-clause-few c).After-index in
-    let product : c.index.result.now.wide * c.index.result.now.high ≡ wide l x c.args.patch * high l x c.args.patch =
-    λ i. at.is.wide i * at.is.high i in
-    omega (
+    rw (at.is.wide, at.is.high) (omega (
       arith,
       term_room (λ p. wide l x p * high l x p) (length (layout_of placed.t.now).patches) c.args.patch at.low,
-    )
+    ))
 
 pub returns-clause-short : goal.returns-clause-short
 returns-clause-short c =
     let placed = c.args.self.now.placed in
-    let at = read (goal.at.returns-clause-short c).After-index in (omega arith, omega arith)
+    let at = read (goal.at.returns-clause-short c).After-index in omega arith
