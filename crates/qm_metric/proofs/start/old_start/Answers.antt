@@ -1,6 +1,6 @@
-use Rattle.std.proofs.Common.{rules, ◌*◌, length, map, ◌∙◌, ap}
-use Rattle.{std.proofs.lemmas.Result.IfOk-weaker, def_layout.specs.declared.tmesh.TArc.TArc}
-use Rattle.{qm_layoutnet.proofs.Whole.runs_short, qm_metric.proofs.Nets.times_same}
+use Rattle.std.proofs.Common.{rules, ◌*◌, length, map, ◌∙◌, ap, sym}
+use Rattle.{std.proofs.lemmas.Result.IfOk-weaker, std.proofs.lemmas.Simd.map-map, qm_layoutnet.proofs.Whole.runs_short}
+use Rattle.def_layout.specs.{Arcs.Path, Arcs.path, declared.tmesh.TArc.TArc}
 use Rattle.qm_metric.proofs.start.old_start.Goals as goal
 
 pub times_long-requires : goal.times_long-requires
@@ -9,4 +9,4 @@ times_long-requires c = search (rules, runs_short)
 pub returns : goal.returns
 returns c = IfOk-weaker c.times_long.result _ _
     (λ start is. is ∙ ap (map (λ (run : TArc). c.args.floor * length run.darts.items)) c.deref.ensures.value
-    ∙ times_same c.args.floor c.args.t.now.arcs.items) c.times_long.ensures
+    ∙ sym (map-map (λ (p : Path). c.args.floor * length p.darts) path c.args.t.now.arcs.items)) c.times_long.ensures

@@ -1,6 +1,6 @@
-use Rattle.std.proofs.Common.{◌≡◌, ◌-◌, ◌^◌, ℕ, get_or, ap, ◌∙◌, arith}
-use Rattle.{std.specs.Prelude.min, def_layout.specs.declared.tmesh.TArc.TArc, qm_metric.specs.Wishes.wish_along}
-use Rattle.{table_laws.proofs.Ranges.count_take, qm_metric.proofs.Nets.entry_more}
+use Rattle.std.proofs.Common.{◌≡◌, ◌-◌, ◌^◌, ℕ, get_or, ap, ◌∙◌, arith, take, [], ◌∷◌}
+use Rattle.{std.proofs.lemmas.List.take_more, qm_metric.specs.Wishes.wish_along, std.proofs.lemmas.List.map-append}
+use Rattle.{std.specs.Prelude.min, def_layout.specs.declared.tmesh.TArc.TArc, table_laws.proofs.Ranges.count_take}
 
 pub loop-run-preserved : Rattle.qm_metric.proofs.sums.sums_of.Goals.loop-run-preserved
 loop-run-preserved c =
@@ -12,8 +12,12 @@ loop-run-preserved c =
     let cut : c.min.result ≡ min (f at) (2 ^ 32 - 1) = omega (arith, c.min.ensures, value, c.from.ensures) in
     record {
       sum = omega (arith, count_take f c.run-item.result c.args.runs.now c.loop-run.run-index c.loop-run-test.true);
-      found = entry_more (λ run. min (f run) (2 ^ 32 - 1)) c.args.runs.now c.loop-run.run-index c.run-item.result
-          c.loop-run.found.items c.push.new.self.items c.min.result c.loop-run-test.true c.loop-run.invariant.found cut
-          c.in_ok-push.ensures.items;
+      found = rw (
+        c.in_ok-push.ensures.items,
+        c.loop-run.invariant.found,
+        cut,
+        ← map-append (λ run. min (f run) (2 ^ 32 - 1)) (take c.loop-run.run-index c.args.runs.now) (at ∷ []),
+        take_more c.args.runs.now c.loop-run.run-index c.run-item.result c.loop-run-test.true,
+      );
       small = omega (arith, c.loop-run.invariant.small, c.wish_along-wish.ensures.small);
     }
