@@ -1,27 +1,23 @@
 -- How many riders pass a test with their notes.
 use Rattle.std.proofs.Common.{rules, ◌≡◌, ◌≢◌, ◌↔◌, ℕ, zero, suc, ◌+◌, ◌<◌, ◌≤◌, Bool, true, false, eqb, List, ◌∷◌, map}
 use Rattle.std.proofs.Common.{length, set, replicate, Option, Some, None, sym, ap, ◌∙◌, refl, inl, inr, arith, [], ◌^◌}
-use Rattle.std.proofs.{Common.cond, Common.◌||◌, lemmas.Bool.or_cases, lemmas.Bool.and_parts}
-use Rattle.std.proofs.lemmas.Bool.{cases_Bool, eq-eqb, ne_eqb, eqb-true, cases_lt, false≢true, or_left, or_right}
+use Rattle.std.proofs.{Common.cond, Common.◌||◌, lemmas.Bool.and_parts}
+use Rattle.std.proofs.lemmas.Bool.{true_from_ne_false, eq-eqb, ne_eqb, eqb-true, cases_lt, false≢true}
 use Rattle.std.proofs.lemmas.List.{set-get_or, get_or-map, get_or_past, length-map}
 use Rattle.def_cut.specs.Motion.{Terrain, end_of, is_among, begun, stop_of, or_else, straight, after_ride, ridden}
-use Rattle.def_cut.specs.Motion.{is_found, arrives_at, ride_on, ride, later, State}
+use Rattle.def_cut.specs.Motion.{arrives_at, ride, later, State}
 use Rattle.def_cut.specs.{declared.graph.Stop.Stop, declared.moving.Moving.Moving, FullCut.is_on, Traced.terrain_of}
-use Rattle.def_cut.specs.Events.{all_told, darts_in, is_waiting, more_if, note_at, rider_at, told_at, waiting}
+use Rattle.def_cut.specs.Events.{all_told, darts_in, is_waiting, more_if, note_at, rider_at, waiting}
 use Rattle.motion_laws.proofs.{Marks.noted_among, Marks.noted_where, Steps.stands, Onward.later_reached}
 use Rattle.motion_laws.proofs.Shown.{AreShown, runs_ridden, with_cases}
 use Rattle.motion_laws.proofs.Among.{all_at, not_all, cases_Option, any_at, any_where}
-use Rattle.qm_trace.specs.Motions.{AreCounted, is_untold, is_untold_by, runs_on, tally}
+use Rattle.qm_trace.specs.Motions.{AreCounted, is_untold, runs_on, tally}
 use Rattle.qm_trace.specs.Tables.{is_running, AreDarts, CanRide, IsInstant, IsQueue, IsTableAt, dart_of, state_at}
-use Rattle.def_mesh.specs.Darts.{darts, to_of, twin_of}
+use Rattle.def_mesh.specs.Darts.{to_of}
 use Rattle.{motion_laws.proofs.Bits.IsReachedFrom, qm_trace.specs.declared.telling.Riders.Riders}
 use Rattle.{def_mesh.specs.Faces.Faces, def_mesh.specs.Manifold.IsManifold, def_feature.specs.Marked.marked_first}
 use Rattle.{std.specs.List.list_all, std.specs.List.list_any, sum_laws.proofs.Tests.same_test}
 use Rattle.{site_laws.proofs.Sites.terrain, feature_laws.proofs.Breaks.begins, feature_laws.proofs.First.marked_begin}
-
-more_is : (b : Bool) (n : ℕ) → more_if b n ≡ more_if b 0 + n
-more_is true n = omega arith
-more_is false n = omega arith
 
 -- One rider and its note changed.
 pub tally_set : (p : Moving → Option ℕ → Bool) (rs : List Moving) (ns : List (Option ℕ)) (r : ℕ) (x : Moving)
@@ -41,15 +37,15 @@ pub tally_some : (p : Moving → Option ℕ → Bool) (rs : List Moving) (ns : L
     → r < length ns → p (rider_at rs r) (note_at ns r) ≡ true → 0 < tally p rs ns
 tally_some p (q ∷ rs) (k ∷ ns) zero l h e = rw e (omega arith)
 tally_some p (q ∷ rs) (k ∷ ns) (suc r) l h e =
-    omega (arith, more_is (p q k) (tally p rs ns), tally_some p rs ns r (omega arith) (omega arith) e)
+    grind (arith, tally_some p rs ns r (omega arith) (omega arith) e)
 tally_some p _ _ r l h e = absurd (omega arith)
 
 pub tally_none : (p : Moving → Option ℕ → Bool) (rs : List Moving) (ns : List (Option ℕ))
     → ((r : ℕ) → r < length rs → p (rider_at rs r) (note_at ns r) ≡ false) → tally p rs ns ≡ 0
 tally_none p [] ns none = refl
 tally_none p (q ∷ rs) [] none = refl
-tally_none p (q ∷ rs) (k ∷ ns) none = ap (λ (b : Bool). more_if b (tally p rs ns)) (none 0 (omega arith))
-    ∙ tally_none p rs ns (λ r l. none (suc r) (omega arith))
+tally_none p (q ∷ rs) (k ∷ ns) none =
+    grind (arith, none 0 (omega arith), tally_none p rs ns (λ r l. none (suc r) (omega arith)))
 
 -- Who waits, by such a test.
 abbrev pub waits_now : (rider : Moving) (note : Option ℕ) → Bool
@@ -60,15 +56,11 @@ waiting_is [] ns = refl
 waiting_is (q ∷ rs) [] = refl
 waiting_is (q ∷ rs) (k ∷ ns) = ap (more_if (is_waiting q.stop k)) (waiting_is rs ns)
 
-not_noted : (o : Option Stop) (d : ℕ) → is_untold_by o d None ≡ false
-not_noted None d = refl
-not_noted (Some s) d = refl
-
 -- Without notes all who run wait, and nobody is untold.
 pub none_untold : (rs : List Moving) (k : ℕ) → tally is_untold rs (replicate k None) ≡ 0
 none_untold [] k = refl
 none_untold (q ∷ rs) zero = refl
-none_untold (q ∷ rs) (suc k) = rw (not_noted q.stop q.dart) (none_untold rs k)
+none_untold (q ∷ rs) (suc k) = search (rules, none_untold rs k)
 
 pub all_wait : (rs : List Moving) (ns : List (Option ℕ)) → length ns ≡ length rs
     → waiting rs (replicate (length ns) None) ≡ tally runs_on rs ns
@@ -94,45 +86,32 @@ pub waiting_told : (g : Terrain) (stood : ℕ → Bool) (ds : List ℕ) (v : ℕ
     → waiting (all_told g stood ds v rs ns) ns ≡ waiting rs ns
 waiting_told g stood ds v [] ns = refl
 waiting_told g stood ds v (q ∷ rs) [] = refl
-waiting_told g stood ds v (q ∷ rs) (None ∷ ns) = ap (more_if (is_waiting q.stop None)) (waiting_told g stood ds v rs ns)
-waiting_told g stood ds v (q ∷ rs) (Some d ∷ ns) = ap (λ (b : Bool). more_if b (waiting (all_told g stood ds v rs ns)
-    ns)) (noted (told_at g stood ds v q (Some d)).stop d) ∙ (search (rules, waiting_told g stood ds v rs ns))
-  where
-    noted : (o : Option Stop) (d : ℕ) → is_waiting o (Some d) ≡ false
-    noted None d = refl
-    noted (Some s) d = refl
+waiting_told g stood ds v (q ∷ rs) (n ∷ ns) = search (rules, waiting_told g stood ds v rs ns)
 
 -- Nobody is untold where the ends of all noted darts are settled, and only there.
 pub untold_is : {g : Terrain} {stood : ℕ → Bool} {ds : List ℕ} {V : ℕ → Bool} {bs rs : List Moving}
     {ns : List (Option ℕ)} → AreShown g stood ds V bs rs ns
     → ((d : ℕ) → is_among d (darts_in ns) ≡ true → stop_of g stood ds d ≡ None → or_else (straight g d) d ≢ d)
     → eqb (tally is_untold rs ns) 0 ≡ list_all (λ d. V (end_of g d)) (darts_in ns)
-untold_is {g} {stood} {ds} {V} {bs} {rs} {ns} a onward = same_test _ _ to from
+untold_is {g} {stood} {ds} {V} {bs} {rs} {ns} a onward = same_test _ _ (λ e. true_from_ne_false _ (λ off.
+    let (d, m, o) = not_all (λ d. V (end_of g d)) (darts_in ns) off in
+    let (r, l, n) = noted_where ns d m in
+    let (runs, same) = a.noted r d n in
+    search (rules, tally_some))) (λ all. eq-eqb (tally is_untold rs ns) 0 (tally_none is_untold rs ns (λ r l.
+    search (
+      rules,
+      cases_Option (note_at ns r),
+      a.shows r,
+      noted_among ns r,
+      all_at (λ d. V (end_of g d)),
+      was_told,
+      onward,
+    ))))
   where
-    to : eqb (tally is_untold rs ns) 0 ≡ true → list_all (λ d. V (end_of g d)) (darts_in ns) ≡ true
-    to e = elim (cases_Bool (list_all (λ d. V (end_of g d)) (darts_in ns))) [
-      | inl y ↦ y
-      | inr off ↦
-          let (d, m, o) = not_all (λ d. V (end_of g d)) (darts_in ns) off in
-          let (r, l, n) = noted_where ns d m in
-          let (runs, same) = a.noted r d n in
-          search (rules, tally_some)
-    ]
-
     -- Who was told is not untold.
     was_told : (d rides : ℕ) (o : Option Stop) → (o ≡ None → or_else (straight g d) d ≢ d)
         → is_untold (after_ride g d rides o) (Some d) ≡ false
-    was_told d rides (Some s) f = refl
-    was_told d rides None f = ne_eqb (or_else (straight g d) d) d (f refl)
-
-    from : list_all (λ d. V (end_of g d)) (darts_in ns) ≡ true → eqb (tally is_untold rs ns) 0 ≡ true
-    from all = eq-eqb (tally is_untold rs ns) 0 (tally_none is_untold rs ns (λ r l. elim (cases_Option (note_at ns r)) [
-      | inl is ↦ rw is (not_noted (rider_at rs r).stop (rider_at rs r).dart)
-      | inr (d, is) ↦
-          let m = noted_among ns r d is in
-          let on : V (end_of g d) ≡ true = all_at (λ d. V (end_of g d)) d (darts_in ns) all m in
-          rw (a.shows r, is, on) (was_told d (rider_at bs r).rides (stop_of g stood ds d) (onward d m))
-    ]))
+    was_told d rides o f = search (rules, ne_eqb)
 
 -- Nobody is counted as running where nobody runs, and only there.
 pub over_is : (riders : Riders) (noted : List (Option ℕ)) → AreCounted riders noted → (eqb riders.running 0 ≡ true) ↔
@@ -174,27 +153,19 @@ begun_low (d ∷ ds) zero = omega arith
 begun_low (d ∷ ds) (suc r) = begun_low ds r
 
 -- At most one ride a step.
+one_more : (g : Terrain) (stood : ℕ → Bool) (ds : List ℕ) (x : Moving) → (ride g stood ds x).rides ≤ suc x.rides
+one_more g stood ds x = search rules
+
 pub rides_low : (g : Terrain) (first : State) → ((r : ℕ) → (rider_at first.riders r).rides ≤ 0) → (k r : ℕ)
     → (rider_at (later g first k).riders r).rides ≤ k
 rides_low g first none zero r = none r
-rides_low g first none (suc k) r = elim (cases_lt r (length s.riders)) [
-  | inl l ↦ search (rules, get_or-map, by_rider, rides_low g first none k r)
-  | inr h ↦ rw (get_or_past (map f s.riders) r (begun 0) (omega (arith, h, length-map s.riders f))) (omega arith)
-]
-  where
-    s : State
-    s = later g first k
-
-    f : Moving → Moving
-    f = ride g s.stood (ridden s.riders)
-
-    by_stop : (stop : Option Stop) (d n : ℕ) → (after_ride g d n stop).rides ≡ n + 1
-    by_stop None d n = refl
-    by_stop (Some s) d n = refl
-
-    by_rider : (x : Moving) (o : Option Stop) → x.rides ≤ k → (ride_on g s.stood (ridden s.riders) x o).rides ≤ suc k
-    by_rider x (Some o) l = omega arith
-    by_rider x None l = omega (arith, by_stop (stop_of g s.stood (ridden s.riders) x.dart) x.dart x.rides)
+rides_low g first none (suc k) r =
+    let s = later g first k in
+    let f = ride g s.stood (ridden s.riders) in
+    elim (cases_lt r (length s.riders)) [
+      | inl l ↦ search (rules, get_or-map, one_more, rides_low g first none k r)
+      | inr h ↦ rw (get_or_past (map f s.riders) r (begun 0) (omega (arith, h, length-map s.riders f))) (omega arith)
+    ]
 
 -- A step from the tables, where riders wait in the queue and ride these darts.
 module _ {faces : Faces} {marks : List Bool} {k : ℕ} {riders : List Moving} {stood covered taken : List Bool}
@@ -220,32 +191,19 @@ module _ {faces : Faces} {marks : List Bool} {k : ℕ} {riders : List Moving} {s
     apart = waits.apart;
   }
 
-  module _ (taken1 : List Bool) (each : (d : ℕ) → is_on taken1 d ≡ cond (is_among d ds) true (is_on taken d)) where
-    pub instant : IsInstant faces marks k riders queue stood taken1
-    instant = search (rules, same_darts)
+  pub instant : (taken1 : List Bool) → ((d : ℕ) → is_on taken1 d ≡ cond (is_among d ds) true (is_on taken d))
+      → IsInstant faces marks k riders queue stood taken1
+  instant taken1 each = search (rules, same_darts)
 
-    -- Somebody has stood at v after the step where one had before, or ends there now.
-    stands_next : (v : ℕ) → (now.stood v || list_any (λ d. eqb (to_of faces d) v) ds) ≡ next.stood v
-    stands_next v = same_test _ _ (λ b. elim (or_cases (now.stood v) (list_any (λ d. eqb (to_of faces d) v) ds) b) [
-      | inl y ↦ or_left (now.stood v) _ y
-      | inr n ↦
-          let (d, m, e) = any_where (λ d. eqb (to_of faces d) v) ds n in
-          ap next.stood (sym (eqb-true (to_of faces d) v e)) ∙ stands (terrain_of faces) (terrain faces mesh)
-          (begins faces marks) (marked_first faces marks) now reached d (sym (search (rules, same_darts)) ∙ m)
-    ])
-        (λ b. elim (or_cases (now.stood v) (list_any (arrives_at (terrain_of faces) (ridden now.riders) v)
-        (ridden now.riders)) b) [
-          | inl y ↦ or_left (now.stood v) _ y
-          | inr n ↦
-              let (d, m, e) = any_where (arrives_at (terrain_of faces) (ridden now.riders) v) (ridden now.riders) n in
-              or_right (now.stood v) _ (any_at (λ x. eqb (to_of faces x) v) d ds ((search (rules, same_darts)) ∙ m)
-              (and_parts _ _ e).0)
-        ])
-
-    pub stepped : {riders2 : List Moving} {stood2 covered2 taken2 : List Bool} → riders2 ≡
-        (state_at faces marks (suc k)).riders → length stood2 ≡ length stood → ((v : ℕ) → is_on stood2 v ≡
-        (is_on stood v || list_any (λ d. eqb (to_of faces d) v) ds)) → length covered2 ≡ length covered → ((d : ℕ)
-        → d < darts faces → is_on covered2 d ≡ (is_on covered d || (is_among d ds || is_found (twin_of faces d) ds)))
-        → length taken2 ≡ length taken → ((d : ℕ) → is_on taken2 d ≡ cond (is_among d ds) false (is_on taken1 d))
-        → IsTableAt faces marks (suc k) riders2 stood2 covered2 taken2
-    stepped r ls es lc ec lt e2 = search (rules, stands_next, same_darts)
+  -- Somebody has stood at v after the step where one had before, or ends there now.
+  pub stands_next : (v : ℕ) → (now.stood v || list_any (λ d. eqb (to_of faces d) v) ds) ≡ next.stood v
+  stands_next v =
+      let ends : list_any (λ d. eqb (to_of faces d) v) ds ≡ true → next.stood v ≡ true = λ n.
+      let (d, m, e) = any_where (λ d. eqb (to_of faces d) v) ds n in
+      ap next.stood (sym (eqb-true (to_of faces d) v e)) ∙ stands (terrain_of faces) (terrain faces mesh)
+      (begins faces marks) (marked_first faces marks) now reached d (sym (search (rules, same_darts)) ∙ m) in
+      let came : list_any (arrives_at (terrain_of faces) (ridden now.riders) v) (ridden now.riders) ≡ true
+      → list_any (λ d. eqb (to_of faces d) v) ds ≡ true = λ n.
+      let (d, m, e) = any_where (arrives_at (terrain_of faces) (ridden now.riders) v) (ridden now.riders) n in
+      any_at (λ x. eqb (to_of faces x) v) d ds ((search (rules, same_darts)) ∙ m) (and_parts _ _ e).0 in
+      grind arith

@@ -1,7 +1,7 @@
 -- The tables and the queue before the first instant.
 use Rattle.std.proofs.Common.{rules, ◌≡◌, ℕ, ◌≤◌, Bool, false, not, List, [], ◌∷◌, length, map, ap, ◌∙◌, arith, ◌+◌}
-use Rattle.std.proofs.Common.{◌++◌, zero, suc, ◌-◌, ◌<◌, true, eqb, is_some, None, sym, refl, ◌||◌, inl, inr}
-use Rattle.std.proofs.lemmas.List.FromFn.{length-range_with_len, get_or-map-range_with_len, map-range_with_len_more}
+use Rattle.std.proofs.Common.{◌++◌, suc, ◌-◌, ◌<◌, true, is_some, None, sym, refl, ◌||◌, inl, inr}
+use Rattle.std.proofs.lemmas.List.FromFn.{length-map-range_with_len, get_or-map-range_with_len, map-range_with_len_more}
 use Rattle.std.proofs.{lemmas.List.get_or-map, lemmas.List.length-map, lemmas.List.ext_get_or, lemmas.Bool.false≢true}
 use Rattle.def_mesh.specs.{Faces.Faces, Manifold.IsManifold, Vertices.vertex_count, Components.start_darts, Darts.darts}
 use Rattle.def_mesh.specs.{Darts.all_darts, Darts.twin_of, Kinds.is_inner, Kinds.is_singular}
@@ -10,23 +10,14 @@ use Rattle.def_cut.specs.{FullCut.is_on, Events.rider_at, declared.moving.Moving
 use Rattle.def_cut.specs.{Traced.IsRiderOf, Traced.is_cut, Traced.terrain_of, declared.graph.Rider.Rider}
 use Rattle.def_feature.specs.{Marked.marked_starts, Marked.marked_first, Marked.marked_last, Marks.AreMarks}
 use Rattle.feature_laws.proofs.{First.origin_of, First.marked_begin}
-use Rattle.motion_laws.proofs.Among.{AreApart, apart_filter, among_range, range_among, range_apart, among_here}
+use Rattle.motion_laws.proofs.Among.{apart_filter, among_range, range_among, range_apart, among_here}
 use Rattle.motion_laws.proofs.Among.{cases_List, cases_Option, from_filter, in_filter}
 use Rattle.motion_laws.proofs.Onward.{at_rest, last_rests, runs_on, finish_later, later_long}
 use Rattle.motion_laws.proofs.{Marks.apart_few, Shown.runs_ridden}
-use Rattle.qm_trace.specs.Tables.{AreEachOnce, IsQueue, IsGround, HaveStopped, IsEnd, IsOnItsWay, IsTableAt, is_running}
+use Rattle.qm_trace.specs.Tables.{IsQueue, IsGround, HaveStopped, IsEnd, IsOnItsWay, IsTableAt, is_running}
 use Rattle.qm_trace.specs.Tables.{is_closed_at, state_at}
 use Rattle.{std.specs.List.range_with_len, std.specs.List.filter, site_laws.proofs.Sites.started}
 use Rattle.{site_laws.proofs.Sites.terrain, mesh_laws.proofs.Flood.all_below, qm_trace.proofs.Counting.ridden_where}
-
--- Numbers that are apart stand there once each.
-pub each_once : (ns : List ℕ) → AreApart ns → AreEachOnce ns
-each_once [] a = tt
-each_once (n ∷ ns) a = (a.0, each_once ns a.1)
-
-pub all_apart : (ns : List ℕ) → AreEachOnce ns → AreApart ns
-all_apart [] a = tt
-all_apart (n ∷ ns) a = (a.0, all_apart ns a.1)
 
 -- The riders start along darts, at most one along each.
 pub starts_few : (faces : Faces) → IsManifold faces → length (start_darts faces) ≤ darts faces
@@ -46,30 +37,18 @@ first_queue starts riders is = record {
         ∙ ap (λ (x : Moving). x.stop) (get_or-map begun starts r 0 _ (omega (arith, p.1))),
   );
   all = λ r l e. among_range 0 _ r (omega arith) (omega (arith, l, ap length is, length-map starts begun));
-  apart = each_once _ (range_apart 0 _);
+  apart = range_apart 0 _;
 }
 
 -- The ground, vertex by vertex.
-pub ground_is : (faces : Faces) (boundary singular : List Bool)
-    → boundary ≡ map (λ v. not (is_inner faces v)) (range_with_len 0 (vertex_count faces))
-    → singular ≡ map (is_singular faces) (range_with_len 0 (vertex_count faces)) → IsGround faces boundary singular
-ground_is faces boundary singular e f = rw (e, f) (record {
-  boundary_long = length-map (range_with_len 0 (vertex_count faces)) (λ v. not (is_inner _ v))
-      ∙ length-range_with_len 0 _;
-  singular_long = length-map (range_with_len 0 (vertex_count faces)) (is_singular faces) ∙ length-range_with_len 0 _;
-  at_boundary = search (rules, get_or-map-range_with_len);
-  at_singular = λ v l. get_or-map-range_with_len _ 0 _ v v _ l (omega arith);
-})
+pub ground_is : (faces : Faces) → IsGround faces
+    (map (λ v. not (is_inner faces v)) (range_with_len 0 (vertex_count faces)))
+    (map (is_singular faces) (range_with_len 0 (vertex_count faces)))
+ground_is faces = search (rules, length-map-range_with_len, get_or-map-range_with_len)
 
 pub map_more : {X : Type 0} (f : ℕ → X) (n : ℕ) → map f (range_with_len 0 (n + 1)) ≡ map f (range_with_len 0 n)
     ++ f n ∷ []
 map_more f n = map-range_with_len_more f 0 n n (omega arith)
-
--- The queue of the next instant, and the end of the motion.
-
-pub some_wait : (n : ℕ) → eqb n 0 ≡ false → 0 < n
-some_wait zero e = absurd (false≢true (sym e))
-some_wait (suc n) e = omega arith
 
 -- The tables after k steps and after one more, and the queue of those who ran.
 module _ {faces : Faces} {marks : List Bool} {k : ℕ} {riders new : List Moving} {queue : List ℕ}
@@ -150,18 +129,17 @@ all_over {faces} m {marks} marked is = ap ridden is ∙ last_rests _ (terrain _ 
 pub marks_are : (faces : Faces) (covered marks : List Bool) → length marks ≡ darts faces
     → ((d : ℕ) → d < darts faces → is_on marks d ≡ (is_on covered d || not (is_some (twin_of faces d))))
     → marks ≡ map (is_closed_at faces covered) (all_darts faces)
-marks_are faces covered marks long each = ext_get_or false marks (map (is_closed_at faces covered) (all_darts faces))
-    (long ∙ sym (length-map (all_darts faces) (is_closed_at faces covered) ∙ length-range_with_len 0 (darts faces)))
+marks_are faces covered marks long each = ext_get_or false marks _
+    (long ∙ sym (length-map-range_with_len (is_closed_at faces covered) 0 (darts faces)))
     (search (rules, get_or-map-range_with_len))
 
 -- They are the cut of a state with these covered darts.
 pub cut_is : (faces : Faces) (s : State) (covered : List Bool)
     → ((d : ℕ) → d < darts faces → is_on covered d ≡ s.covered d) → map (is_closed_at faces covered) (all_darts faces)
     ≡ map (is_cut (terrain_of faces) s) (all_darts faces)
-cut_is faces s covered same =
-    let cut = is_cut (terrain_of faces) s in
-    sym (marks_are faces covered (map (is_cut (terrain_of faces) s) (all_darts faces)) (length-map (all_darts faces) cut
-    ∙ length-range_with_len 0 (darts faces)) (search (rules, get_or-map-range_with_len)))
+cut_is faces s covered same = sym (marks_are faces covered (map (is_cut (terrain_of faces) s) (all_darts faces))
+    (length-map-range_with_len (is_cut (terrain_of faces) s) 0 (darts faces))
+    (search (rules, get_or-map-range_with_len)))
 
 -- No rider is lost.
 pub last_long : (faces : Faces) (marks : List Bool) → length (marked_last faces marks).riders
@@ -173,10 +151,7 @@ last_long faces marks =
 
 -- Where nobody rides, each rider has stopped.
 pub have_stopped : (riders : List Moving) → ridden riders ≡ [] → HaveStopped riders
-have_stopped riders none r l = elim (cases_Option (rider_at riders r).stop) [
-  | inl is ↦ absurd (false≢true (sym (ap (is_among (rider_at riders r).dart) none) ∙ runs_ridden riders r l is))
-  | inr (s, is) ↦ ap is_some is
-]
+have_stopped riders none r l = grind (arith, cases_Option (rider_at riders r).stop, runs_ridden riders r l)
 
 -- One rider more is told.
 pub riders_more : (ms : List Moving) (ds : List ℕ) (rs : List Rider) (m : Moving) (d : ℕ) (r : Rider)

@@ -1,24 +1,24 @@
 -- Which events are possible, and how many can still happen.
-use Rattle.std.proofs.Common.{rules, ◌≡◌, ℕ, zero, suc, ◌+◌, ◌*◌, ◌-◌, ◌<◌, ◌≤◌, Bool, true, false, cond, List, ◌∷◌}
-use Rattle.std.proofs.Common.{◌++◌, length, set, map, replicate, Option, Some, None, sym, ap, ◌∙◌, refl, arith, [], eqb}
+use Rattle.std.proofs.Common.{rules, ◌≡◌, ℕ, zero, suc, ◌+◌, ◌-◌, ◌<◌, ◌≤◌, Bool, true, false, cond, List, ◌∷◌}
+use Rattle.std.proofs.Common.{length, set, map, replicate, Option, Some, None, sym, ap, ◌∙◌, refl, arith, [], eqb}
 use Rattle.std.proofs.{Common.◌||◌, Common.get_or, lemmas.Bool.false≢true, Math.Bool.or-false}
 use Rattle.std.proofs.lemmas.List.{length-map, length-replicate, length-set, ext_get_or, get_or_default}
 use Rattle.def_mesh.specs.{Faces.Faces, Components.start_darts, Manifold.IsManifold, Vertices.vertex_count}
 use Rattle.def_mesh.specs.Darts.{darts, to_of, from_of}
 use Rattle.def_cut.specs.Events.{after_ride_of, after_settling, all_told, closed, darts_in, decided_at}
-use Rattle.def_cut.specs.Events.{are_ends_settled, leads_to, rider_at, ridden_once_more, rides_in, told}
-use Rattle.def_cut.specs.Events.{first_event_state, Event, EventState, Leads, is_waiting, may_settle, note_at, May}
+use Rattle.def_cut.specs.Events.{are_ends_settled, leads_to, rider_at, ridden_once_more, rides_in}
+use Rattle.def_cut.specs.Events.{Event, EventState, Leads, is_waiting, may_settle, note_at, May}
 use Rattle.def_cut.specs.Events.{NobodyRuns, marked_from, waiting, may_ride, after_event}
-use Rattle.def_cut.specs.{FullCut.is_on, Traced.terrain_of, declared.graph.Stop.Stop, declared.moving.Moving.Moving}
+use Rattle.def_cut.specs.{FullCut.is_on, Traced.terrain_of, declared.moving.Moving.Moving, declared.graph.Rider.Rider}
 use Rattle.def_cut.specs.Motion.{begun, Terrain, is_among}
 use Rattle.def_cut.specs.Views.{MotionView, IsMotionOn, with_state}
 use Rattle.motion_laws.proofs.Marks.{no_darts, from_marks, marked_long, none_on}
 use Rattle.motion_laws.proofs.{Shown.still_runs, Order.parts, Order.some_end, Onward.later_long}
-use Rattle.qm_trace.proofs.Reaching.{MayRide, Reached, as_long, leads_more, more_led, reached_by, ride_runs}
+use Rattle.qm_trace.proofs.Reaching.{MayRide, Reached, as_long, more_led, reached_by, ride_runs}
 use Rattle.qm_trace.proofs.Counting.{tally_none, waiting_is, all_run, all_wait, none_untold, tally_runs, tally_set}
 use Rattle.qm_trace.proofs.Noting.{settle_low, MaySettle, Settling}
 use Rattle.qm_trace.specs.Left.{left_in, left_of, rides_of, unset}
-use Rattle.qm_trace.specs.{declared.telling.Riders.Riders, Motions.AreCounted, Motions.AreNotes, Tables.IsSite}
+use Rattle.qm_trace.specs.{declared.telling.Riders.Riders, Motions.AreCounted, Motions.IsKept, Tables.IsSite}
 use Rattle.qm_trace.specs.{declared.notes.Notes.Notes, declared.ground.Site.Site}
 use Rattle.{def_cut.specs.Events.Event.Ride, def_cut.specs.Events.Event.Settle, site_laws.proofs.Laws.order_law}
 use Rattle.{site_laws.proofs.Sites.started, std.specs.List.list_any, mesh_laws.proofs.Flood.all_below}
@@ -56,16 +56,12 @@ rides_set (q ∷ rs) zero low = omega arith
 rides_set (q ∷ rs) (suc r) low = let rest = rides_set rs r (omega (arith, low)) in omega (arith, rest)
 
 -- Telling is none.
-told_rides : (g : Terrain) (d : ℕ) (q : Moving) (o : Option Stop) → (told g d q o).rides ≡ q.rides
-told_rides g d q None = refl
-told_rides g d q (Some s) = refl
-
 rides_told : (g : Terrain) (stood : ℕ → Bool) (ds : List ℕ) (v : ℕ) (rs : List Moving) (ns : List (Option ℕ))
     → length ns ≡ length rs → rides_of (all_told g stood ds v rs ns) ≡ rides_of rs
 rides_told g stood ds v [] ns same = refl
 rides_told g stood ds v (q ∷ rs) [] same = absurd (omega (arith, same))
 rides_told g stood ds v (q ∷ rs) (n ∷ ns) same =
-    search (rules, told_rides, rides_told g stood ds v rs ns (omega (arith, same)))
+    search (rules, rides_told g stood ds v rs ns (omega (arith, same)))
 
 no_rides : (starts : List ℕ) → rides_of (map begun starts) ≡ 0
 no_rides [] = refl
@@ -98,26 +94,23 @@ module _ {faces : Faces} {x : EventState} (now : Reached faces x) where
   settle_rides : (v : ℕ) → rides_of (after_settling (terrain_of faces) x v).riders ≡ rides_of x.riders
   settle_rides v = search (rules, decided_rides v)
 
-module _ {faces : Faces} (m : IsManifold faces) where
-  -- The riders have made as many rides as the events.
-  rides_from : (done es : List Event) (x y : EventState) (c : ℕ) → Leads (terrain_of faces) (first_event_state faces)
-      done x → rides_of x.riders ≡ c → Leads (terrain_of faces) x es y → rides_of y.riders ≡ c + rides_in es
-  rides_from done [] x y c l e led = let n : c + 0 ≡ c = omega arith in
-      rw n (rw (← led) e)
-  rides_from done (Ride r ∷ es) x y c l e led =
-      let n : c + suc (rides_in es) ≡ suc c + rides_in es = omega arith in
-      rw n (rides_from (done ++ Ride r ∷ []) es (after_ride_of (terrain_of faces) x r) y (suc c)
-      (leads_more (terrain_of faces) (first_event_state faces) x done (Ride r) l led.0) (rides_set x.riders r led.0.0
-      ∙ ap suc e) led.1)
-  rides_from done (Settle v ∷ es) x y c l e led =
-      rides_from (done ++ Settle v ∷ []) es (after_settling (terrain_of faces) x v) y c (leads_more (terrain_of faces)
-      (first_event_state faces) x done (Settle v) l led.0) (settle_rides (reached_by m x (done, l)) v ∙ e) led.1
+-- The riders have made one ride more for each of these rides.
+rides_from : {faces : Faces} (es : List Event) (x y : EventState) → Reached faces x → Leads (terrain_of faces) x es y
+    → rides_of y.riders ≡ rides_of x.riders + rides_in es
+rides_from [] x y now led = omega (arith, ap (λ (s : EventState). rides_of s.riders) led)
+rides_from (Ride r ∷ es) x y now led =
+    let rest = rides_from es _ y (reached_by now.mesh _ (more_led now (Ride r) led.0)) led.1 in
+    omega (arith, rest, rides_set x.riders r led.0.0)
+rides_from (Settle v ∷ es) x y now led =
+    let rest = rides_from es _ y (reached_by now.mesh _ (more_led now (Settle v) led.0)) led.1 in
+    omega (arith, rest, settle_rides now v)
 
 -- They are no more than the darts.
 rides_few : {faces : Faces} {x : EventState} → Reached faces x → rides_of x.riders ≤ darts faces
 rides_few {faces} {x} now =
-    let made = rides_from now.mesh [] _ _ x 0 refl (no_rides _) now.led.1 in
-    omega (arith, made, (order_law faces now.mesh now.led.0 x now.led.1).bounded)
+    let made = rides_from now.led.0 _ x (reached_by now.mesh _ ([], refl)) now.led.1 in
+    let bound = (order_law faces now.mesh now.led.0 x now.led.1).bounded in
+    omega (arith, made, no_rides (start_darts faces), bound)
 
 pub ride_less : {faces : Faces} {x : EventState} {r : ℕ} → MayRide faces x r
     → left_of faces (after_ride_of (terrain_of faces) x r) < left_of faces x
@@ -140,29 +133,21 @@ pub settle_less : {faces : Faces} {x : EventState} {v : ℕ} → MaySettle faces
 settle_less {faces} {x} {v} may =
     by_test (are_ends_settled (terrain_of faces) (set x.settled v true) (darts_in x.noted))
   where
-    product : (n : ℕ) → n ≡ length x.settled → (darts faces - rides_of (decided_at (terrain_of faces) x v).riders) *
-        (n + 2) ≡ (darts faces - rides_of x.riders) * (length x.settled + 2)
-    product n same = rw (decided_rides may.now v, same) refl
-
     here : left_in (darts_in x.noted) x.settled ≡ suc (unset x.settled)
     here = by_noted faces v (darts_in x.noted) x.settled (parts may.now.at v may.may).1
 
     by_test : (t : Bool) → left_of faces (cond t (closed (decided_at (terrain_of faces) x v))
         (decided_at (terrain_of faces) x v)) < left_of faces x
-    by_test true = omega (
-      arith,
-      ap (λ (ds : List ℕ). left_in ds (replicate (length (set x.settled v true)) false)) (no_darts (length x.noted)),
-      here,
-      product (length (replicate (length (set x.settled v true)) false))
-          (length-replicate (length (set x.settled v true)) false ∙ length-set x.settled v true),
-    )
-    by_test false = omega (
-      arith,
+    by_test true = simp (decided_rides may.now v, length-replicate, length-set, no_darts, here) (omega arith)
+    by_test false = simp (
+      decided_rides may.now v,
+      length-set,
       here,
       by_noted faces v (darts_in x.noted) (set x.settled v true) (parts may.now.at v may.may).1,
+    ) (omega (
+      arith,
       unset_set x.settled v (omega (arith, settle_low may, may.now.shown.settled_long)) (parts may.now.at v may.may).2,
-      product (length (set x.settled v true)) (length-set x.settled v true),
-    )
+    ))
 
 -- What the calls of a motion make of its tables.
 
@@ -194,12 +179,9 @@ pub first_counted : {riders : Riders} {noted : List (Option ℕ)} (starts : List
 first_counted {riders} {noted} starts list run untold is =
     search (rules, length-replicate, length-map, all_run, none_untold)
 
-pub first_waits : (list : List Moving) (noted : List (Option ℕ)) (starts : List ℕ) → list ≡ map begun starts
-    → noted ≡ replicate (length starts) None → length starts ≡ waiting list noted
-first_waits list noted starts l n =
-    let long = length-replicate (length starts) None in
-    rw (l, n) (sym (ap (λ k. waiting (map begun starts) (replicate k None)) (sym long) ∙ (all_wait (map begun starts)
-    (replicate (length starts) None) (long ∙ sym (length-map starts begun)) ∙ all_run starts)))
+pub first_waits : (starts : List ℕ) → length starts ≡ waiting (map begun starts) (replicate (length starts) None)
+first_waits [] = refl
+first_waits (d ∷ starts) = ap suc (first_waits starts)
 
 -- At the end of an instant all who run wait again.
 module _ {riders : Riders} {noted new : List (Option ℕ)} (k : AreCounted riders noted)
@@ -237,9 +219,10 @@ rides m is on r low may = search (rules, reached_by m _ on.reached, riders_long 
 
 -- A motion after an event.
 pub event_on : {faces : Faces} → IsManifold faces → {motion : MotionView} → IsMotionOn faces motion → (e : Event)
-    → May (terrain_of faces) motion.state e
-    → IsMotionOn faces (with_state motion (after_event (terrain_of faces) motion.state e))
-event_on m on e may = record { reached = more_led (reached_by m _ on.reached) e may; started = on.started }
+    → May (terrain_of faces) motion.state e → {new : MotionView}
+    → new ≡ with_state motion (after_event (terrain_of faces) motion.state e) → IsMotionOn faces new
+event_on m on e may is =
+    rw is (record { reached = more_led (reached_by m _ on.reached) e may; started = on.started })
 
 -- Such a rider, where it was read.
 pub as_read : {faces : Faces} {x : EventState} {r : ℕ} {read : Moving} → MayRide faces x r
@@ -251,8 +234,11 @@ pub settles : {faces : Faces} → IsManifold faces → {motion seen : MotionView
     → (v : ℕ) → may_settle (terrain_of faces) seen.state v ≡ true → MaySettle faces motion.state v
 settles m is on v may = rw is (record { now = reached_by m _ on.reached; may = may })
 
--- A vertex, where the mark of those who have stood was read, and by it what is known of the vertex.
-pub settling : {faces : Faces} {x : EventState} {v : ℕ} {notes : Notes} {site : Site} {read : Bool}
-    → MaySettle faces x v → notes.noted.items ≡ x.noted → AreNotes notes → length notes.taken.items ≡ length x.covered
-    → read ≡ get_or x.stood v read → IsSite faces read v site → Settling faces x v notes site
-settling {faces} {x} {v} {notes} {site} {read} k noted are long e at = search (rules, get_or_default, settle_low)
+-- A vertex that is settled, where the mark of those who have stood was read, and by it what is known of the vertex.
+pub settling : {faces : Faces} → IsManifold faces → {motion seen : MotionView} → motion ≡ seen → IsMotionOn faces seen
+    → {v : ℕ} → may_settle (terrain_of faces) seen.state v ≡ true → {riders : Riders} {notes : Notes} {waits room : ℕ}
+    {starts : List ℕ} {told_now : List Rider}
+    → IsKept riders notes waits motion.state.covered starts told_now room → notes.noted.items ≡ motion.state.noted
+    → {site : Site} {read : Bool} → read ≡ get_or motion.state.stood v read → IsSite faces read v site
+    → Settling faces motion.state v notes site
+settling m is on {v} may kept noted e at = let k = settles m is on v may in search (rules, get_or_default, settle_low k)

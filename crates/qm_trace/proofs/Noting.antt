@@ -2,14 +2,14 @@
 use Rattle.std.proofs.Common.{rules, ◌≡◌, ◌≢◌, ℕ, suc, ◌+◌, ◌<◌, ◌≤◌, Bool, true, false, cond, eqb, List, ◌∷◌, ◌++◌}
 use Rattle.std.proofs.Common.{length, get_or, set, take, replicate, Option, Some, None, sym, subst, ap, ◌∙◌, refl, inl}
 use Rattle.std.proofs.Common.{inr, arith, [], not}
-use Rattle.std.proofs.lemmas.{Bool.cases_eq, Bool.eq-eqb, Bool.false≢true, Bool.false_from_ne_true, Bool.ne_eqb}
+use Rattle.std.proofs.lemmas.{Bool.cases_eq, Bool.eq-eqb, Bool.false≢true, Bool.false_from_ne_true}
 use Rattle.std.proofs.lemmas.{Bool.eqb-true, List.get_or-set_same, List.get_or-set_other, List.length-set}
 use Rattle.std.proofs.lemmas.{List.length-replicate, List.get_or_default, List.ext_get_or}
 use Rattle.std.proofs.lemmas.Option.{none-some, same_Some}
 use Rattle.def_mesh.specs.{Faces.Faces, Darts.darts, Darts.to_of, Darts.from_of, Darts.next_of, Darts.prev_of}
 use Rattle.def_mesh.specs.{Vertices.fan_of, Vertices.vertex_count, Kinds.is_inner, Kinds.is_singular}
 use Rattle.def_cut.specs.Motion.{is_among, State, ridden, stop_of, or_else, straight, begun, step, Terrain}
-use Rattle.def_cut.specs.Events.{darts_in, note_at, EventState, waiting, rider_at, leads_to, may_settle, told}
+use Rattle.def_cut.specs.Events.{darts_in, note_at, EventState, waiting, rider_at, leads_to, may_settle}
 use Rattle.def_cut.specs.Events.{decided_at, are_ends_settled, after_settling, ridden_once_more}
 use Rattle.def_cut.specs.{FullCut.is_on, Traced.terrain_of}
 use Rattle.motion_laws.proofs.Marks.{among_append, among_at, apart_append, apart_few, mark_is, no_darts, noted_among}
@@ -21,7 +21,7 @@ use Rattle.motion_laws.proofs.{Shown.told_long, Shown.told_place, Steps.is_next,
 use Rattle.qm_trace.specs.{declared.notes.Notes.Notes, Motions.AreNotes, Motions.CanTell, Motions.told_by}
 use Rattle.qm_trace.specs.{Motions.AreCounted, Tables.AreEachOnce, Tables.IsSite, Tables.stop_by, Tables.stop_here}
 use Rattle.qm_trace.specs.{declared.ground.Site.Site, declared.telling.Riders.Riders}
-use Rattle.qm_trace.proofs.{Ends.all_apart, Tellings.any_snoc, Tellings.once, Tellings.set_more, Reaching.Reached}
+use Rattle.qm_trace.proofs.{Tellings.any_snoc, Tellings.once, Tellings.set_more, Reaching.Reached}
 use Rattle.qm_trace.proofs.{Reaching.as_long, Counting.untold_is, Counting.waiting_told, Instants.stop_same}
 use Rattle.mesh_laws.proofs.Chains.{next_of-prev_of, next_of_low, prev_of-next_of}
 use Rattle.{std.specs.Vec.vec_capacity, std.specs.List.list_any, sum_laws.proofs.Tests.same_test}
@@ -39,7 +39,7 @@ has_room notes r are low fresh = omega (
   are.room,
   apart_few (length notes.noted.items) (r ∷ notes.queue.items) (
     false_from_ne_true _ (λ a. let d = are.queue_is r a in none-some d.0 (sym fresh ∙ d.1)),
-    all_apart notes.queue.items are.queue_apart,
+    are.queue_apart,
   ) (λ q a. search (rules, among_cases q r notes.queue.items a, are.queue_is, noted_short)),
 )
 
@@ -52,14 +52,17 @@ pub one_note : (notes new : Notes) (r d : ℕ) → AreNotes notes → r < length
 one_note notes new r d are low d_low fresh alone is_noted is_taken is_places is_queue room = record {
   places_long = search rules;
   taken_is = λ e. search (rules, mark_is, are.taken_is, noted_more);
-  slot = λ q e n.
-      let m = rw is_noted at n in
-      rw is_places (elim (cases_eq q r) [
-        | inl s ↦ search rules
-        | inr ne ↦
-            let old = sym (get_or-set_other notes.noted.items r q (Some d) None ne) ∙ m in
-            get_or-set_other notes.places.items d e r 0 (search (rules, noted_among)) ∙ are.slot q e old
-      ]);
+  slot = λ q e n. grind (
+    arith,
+    rw is_noted at n,
+    cases_eq q r,
+    get_or-set_same notes.noted.items r (Some d) None low,
+    get_or-set_other notes.noted.items r q (Some d) None,
+    get_or-set_same notes.places.items d r 0,
+    get_or-set_other notes.places.items d e r 0,
+    noted_among notes.noted.items q e,
+    are.slot q e,
+  );
   queue_has = search (rules, any_snoc);
   queue_is = λ q a. rw is_noted (elim (among_append q notes.queue.items (r ∷ []) (rw is_queue at a)) [
     | inl b ↦ let (e, n) = are.queue_is q b in
@@ -261,13 +264,7 @@ module _ {faces : Faces} {x : EventState} {v : ℕ} {notes : Notes} {site : Site
     riders_are = ext_get_or (begun 0) new.list.items (decided_at g x v).riders (search (rules, told_long)) (λ r h. rw (
       told_so r,
       told_place g (is_on x.stood) (darts_in x.noted) v x.riders x.noted r (as_long now),
-    ) (elim (cases_Option (note_at x.noted r)) [
-      | inl is ↦ rw is refl
-      | inr (d, is) ↦ elim (cases_eq (to_of faces d) v) [
-        | inl e ↦ rw (is, eq-eqb (to_of faces d) v e) (search (rules, stop_then, all_noted, then, noted_among))
-        | inr ne ↦ rw (is, ne_eqb (to_of faces d) v ne) refl
-      ]
-    ]))
+    ) (search (rules, cases_Option (note_at x.noted r), stop_then, all_noted, then, noted_among x.noted r)))
 
     pub still_wait : waiting x.riders x.noted ≡ waiting new.list.items x.noted
     still_wait = sym (rw riders_are (waiting_told g (is_on x.stood) (darts_in x.noted) v x.riders x.noted))

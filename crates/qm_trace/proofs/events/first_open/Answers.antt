@@ -1,4 +1,4 @@
-use Rattle.std.proofs.Common.{rules, ◌≡◌, ◌+◌, ℕ, true, get_or, take, Some, is_some, ap, ◌∙◌}
+use Rattle.std.proofs.Common.{rules, ◌≡◌, ◌+◌, ℕ, true, take, Some, is_some, ap, ◌∙◌}
 use Rattle.std.proofs.{lemmas.Bool.eqb-true, lemmas.Bool.or_cases, lemmas.List.take_all}
 use Rattle.def_cut.specs.{Events.darts_in, Events.leads_to, Events.note_at, FullCut.is_on}
 use Rattle.def_cut.specs.{Motion.is_among, Traced.terrain_of}
@@ -8,18 +8,13 @@ use Rattle.qm_trace.proofs.events.first_open.Goals as goal
 
 pub bounds-noted-r : goal.bounds-noted-r
 bounds-noted-r c =
-    let q = c.requires.notes (get_or c.args.queue.now c.queue.r-index 0) (among_at _ _ c.queue-test.true) in
-    noted_short _ _ _ q.1
+    noted_short _ _ _ (c.requires.notes _ (among_at c.args.queue.now c.queue.r-index c.queue-test.true)).1
 
 pub unwrap-d-requires : goal.unwrap-d-requires
-unwrap-d-requires c =
-    let q = c.requires.notes (get_or c.args.queue.now c.queue.r-index 0) (among_at _ _ c.queue-test.true) in
-    ap is_some q.1
+unwrap-d-requires c = ap is_some (c.requires.notes _ (among_at c.args.queue.now c.queue.r-index c.queue-test.true)).1
 
 pub to-vertex-requires : goal.to-vertex-requires
-to-vertex-requires c =
-    let q = c.requires.notes (get_or c.args.queue.now c.queue.r-index 0) (among_at _ _ c.queue-test.true) in
-    search rules
+to-vertex-requires c = search (rules, c.requires.notes _ (among_at c.args.queue.now c.queue.r-index c.queue-test.true))
 
 pub returns-then-not-settled-vertex-clause-end : goal.returns-then-not-settled-vertex-clause-end
 returns-then-not-settled-vertex-clause-end c = any_at (leads_to (terrain_of c.args.mesh.now) c.to-vertex.result)

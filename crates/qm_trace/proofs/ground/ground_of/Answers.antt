@@ -8,4 +8,4 @@ loop-v-preserved c = search (rules, map_more)
 pub returns : goal.returns
 returns c =
     let e : c.loop-v.v ≡ vertex_count c.args.mesh.now = omega arith in
-    ground_is _ _ _ (rw (← e) c.loop-v.invariant.boundary) (rw (← e) c.loop-v.invariant.singular)
+    rw (c.loop-v.invariant.boundary, c.loop-v.invariant.singular, e) (ground_is c.args.mesh.now)

@@ -1,4 +1,4 @@
-use Rattle.std.proofs.Common.{false, None, is_some, ap, ◌∙◌, arith}
+use Rattle.std.proofs.Common.{rules, is_some, ap, ◌∙◌, arith}
 use Rattle.qm_trace.proofs.Noting.{ends_back, marks_back, taken_back, back_short, dart_read, note_back, note_read}
 use Rattle.{std.proofs.lemmas.List.length-set, def_mesh.specs.Darts.to_of}
 use Rattle.qm_trace.proofs.notes.clear_each.Goals as goal
@@ -9,9 +9,8 @@ index-requires c =
     omega (arith, c.loop-r.noted.ok.0, back_short back)
 
 pub unwrap-d-requires : goal.unwrap-d-requires
-unwrap-d-requires c =
-    let back = note_back c.requires.queue c.loop-r-test.true c.loop-r.invariant.noted c.requires.notes in
-    ap is_some (note_read back c.index.ensures)
+unwrap-d-requires c = ap is_some (note_read (note_back c.requires.queue c.loop-r-test.true c.loop-r.invariant.noted
+    c.requires.notes) c.index.ensures)
 
 pub index_mut-requires : goal.index_mut-requires
 index_mut-requires c =
@@ -32,13 +31,9 @@ pub loop-r-preserved : goal.loop-r-preserved
 loop-r-preserved c =
     let back = note_back c.requires.queue c.loop-r-test.true c.loop-r.invariant.noted c.requires.notes in
     let dart = dart_read back c.index.ensures c.unwrap-d.ensures in
-    record {
-      long = length-set c.loop-r.noted.items _ None ∙ c.loop-r.invariant.long;
-      taken_long = length-set c.loop-r.taken.items c.unwrap-d.result false ∙ c.loop-r.invariant.taken_long;
-      settled_long = length-set c.loop-r.settled.items c.to.result false ∙ c.loop-r.invariant.settled_long;
-      noted = taken_back back;
-      taken = rw dart (marks_back back c.loop-r.taken.items
-          (omega (arith, back.note.2, c.requires.long.0, c.loop-r.invariant.taken_long)) c.loop-r.invariant.taken);
-      settled = ends_back back c.loop-r.settled.items (c.to.ensures.value ∙ ap (to_of c.args.mesh.now) dart) (omega
-          (arith, c.to.ensures.vertex, c.requires.long.1, c.loop-r.invariant.settled_long)) c.loop-r.invariant.settled;
-    }
+    let marks = marks_back back c.loop-r.taken.items
+    (omega (arith, back.note.2, c.requires.long.0, c.loop-r.invariant.taken_long)) c.loop-r.invariant.taken in
+    let ends = ends_back back c.loop-r.settled.items (c.to.ensures.value ∙ ap (to_of c.args.mesh.now) dart)
+    (omega (arith, c.to.ensures.vertex, c.requires.long.1, c.loop-r.invariant.settled_long))
+    c.loop-r.invariant.settled in
+    search (rules, length-set, taken_back back, rw (← dart) at marks, ends)

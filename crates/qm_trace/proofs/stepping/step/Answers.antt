@@ -1,5 +1,5 @@
-use Rattle.std.proofs.Common.{rules, ◌∙◌}
-use Rattle.qm_trace.proofs.Counting.{are_darts, can_ride, instant, stepped}
+use Rattle.std.proofs.Common.{rules}
+use Rattle.qm_trace.proofs.Counting.{are_darts, can_ride, instant, same_darts, stands_next}
 use Rattle.qm_trace.proofs.stepping.step.Goals as goal
 
 pub invariant_of-trail : goal.invariant_of-trail
@@ -13,7 +13,9 @@ pub returns-clause-at : goal.returns-clause-at
 returns-clause-at c marks k at =
     let m = c.faces-known.ensures.mesh.manifold in
     let each = c.set.ensures.each in
-    stepped m at c.requires.queue c.requires.ridden _ each
-    (c.ride_all.ensures marks k (instant m at c.requires.queue c.requires.ridden _ each)) c.stand.ensures.long
-    c.stand.ensures.each c.cover.ensures.long c.cover.ensures.each (c.set-2.ensures.long ∙ c.set.ensures.long)
-    c.set-2.ensures.each
+    let riders = c.ride_all.ensures marks k (instant m at c.requires.queue c.requires.ridden _ each) in
+    search (
+      rules,
+      stands_next m at c.requires.queue c.requires.ridden,
+      same_darts _ _ _ c.requires.queue c.requires.ridden,
+    )

@@ -1,7 +1,7 @@
-use Rattle.std.proofs.Common.{rules, ◌≡◌, sym, ap, ◌∙◌, arith, ◌+◌, suc}
-use Rattle.qm_trace.proofs.Ends.{all_over, end_at, first_on, next_on, next_queue, none_ride, queue_low, some_wait}
+use Rattle.std.proofs.Common.{rules, ◌≡◌, ap, ◌∙◌, arith, ◌+◌, suc}
+use Rattle.qm_trace.proofs.Ends.{all_over, end_at, first_on, first_queue, next_on, next_queue, none_ride, queue_low}
 use Rattle.qm_trace.proofs.tracing.last_tables.Goals.{else-instants-test, then-instants-test+then-is_empty}
-use Rattle.{qm_trace.specs.Tables.state_at, qm_trace.proofs.Ends.first_queue, std.specs.Vec.vec_len}
+use Rattle.{qm_trace.specs.Tables.state_at, std.proofs.lemmas.Bool.Decides.nat_tests}
 use Rattle.def_mesh.specs.Vertices.{vertex_count}
 use Rattle.qm_trace.proofs.tracing.last_tables.Goals as goal
 
@@ -25,10 +25,8 @@ instants-preserved c =
       at = rw plus at;
       waits = rw (c.in_ok-queue-2.ensures, c.deref-in-instants-4.ensures.value, c.deref-in-instants-5.ensures.value)
           (next_queue c.instants.invariant.at at c.instants.invariant.waits);
-      way = next_on c.instants.invariant.at c.instants.invariant.waits (omega (
-        arith,
-        some_wait (vec_len c.instants.queue) (sym c.is_empty.ensures ∙ c.if-is_empty.false),
-      )) c.instants.invariant.way;
+      way = next_on c.instants.invariant.at c.instants.invariant.waits
+          (grind (arith, nat_tests, c.is_empty.ensures, c.if-is_empty.false)) c.instants.invariant.way;
     }
 
 pub returns : goal.returns

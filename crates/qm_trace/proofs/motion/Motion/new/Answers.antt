@@ -1,4 +1,4 @@
-use Rattle.std.proofs.Common.{rules, ◌≡◌, false, List, ℕ, length, replicate, sym, ap, ◌∙◌, refl, arith, [], None, map}
+use Rattle.std.proofs.Common.{rules, ◌≡◌, false, List, ℕ, length, replicate, sym, ap, ◌∙◌, refl, arith, []}
 use Rattle.std.proofs.lemmas.List.{length-map, length-replicate}
 use Rattle.def_mesh.specs.{Darts.darts, Vertices.vertex_count, Components.start_darts}
 use Rattle.qm_trace.proofs.Fewer.{first_counted, first_stood, first_waits}
@@ -21,7 +21,7 @@ invariant_of-result c =
       taken_long = c.in_ok-notes.ensures.long ∙ (ap (λ (xs : List (List ℕ)). darts xs) c.faces.ensures.value
           ∙ sym (ap length covered ∙ length-replicate (darts c.args.mesh.now) false));
       counted = first_counted c.args.src.now.starts.items list many refl noted;
-      waits_is = many ∙ first_waits _ _ c.args.src.now.starts.items list noted;
+      waits_is = many ∙ rw (list, noted) (first_waits c.args.src.now.starts.items);
       starts_long = ap length starts ∙ sym (ap length list ∙ length-map c.args.src.now.starts.items begun);
       untold_yet = c.in_ok-told.ensures.items;
       has_room = omega (arith, ap length starts, many, c.in_ok-told.ensures.capacity);
@@ -29,22 +29,15 @@ invariant_of-result c =
 
 pub returns-clause-first : goal.returns-clause-first
 returns-clause-first c =
-    let many : c.len-many.result ≡ length c.args.src.now.starts.items =
-    c.len-many.ensures ∙ c.args.src.now.starts.ok.0 in
-    let list : c.in_ok-list.list.items ≡ map begun (start_darts c.args.mesh.now) = search rules in
-    let noted : c.in_ok-notes.notes.noted.items ≡ replicate (length (start_darts c.args.mesh.now)) None =
-    c.in_ok-notes.ensures.none ∙ ap (λ n. replicate n None) (many ∙ ap length c.requires.starts) in
-    let covered : c.in_ok-covered.covered.items ≡ replicate (darts c.args.mesh.now) false = search rules in
-    let settled : c.in_ok-settled.settled.items ≡ replicate (vertex_count c.args.mesh.now) false = search rules in
+    let many : c.len-many.result ≡ length (start_darts c.args.mesh.now) =
+    c.len-many.ensures ∙ (c.args.src.now.starts.ok.0 ∙ ap length c.requires.starts) in
     let nowhere : c.in_ok-nowhere.nowhere.items ≡ replicate (vertex_count c.args.mesh.now) false = search rules in
-    rw (
-      list,
-      noted,
-      covered,
-      settled,
+    search (
+      rules,
+      many,
       first_stood c.faces.ensures.mesh.manifold nowhere c.leave-stood.ensures.long
           (c.deref-2.ensures.value ∙ c.requires.starts) c.leave-stood.ensures.each,
-    ) refl
+    )
 
 pub returns-clause-motion : goal.returns-clause-motion
 returns-clause-motion c = record { reached = ([], sym (returns-clause-first c)); started = search rules }

@@ -28,8 +28,7 @@ returns-in_err-vertex-clause-over c =
     let settled : (d : ℕ) → is_among d (darts_in c.self.inside.notes.noted.items) ≡ true
     → is_on c.self.inside.settled.items (to_of c.args.mesh.now d) ≡ true = λ d among.
     let r = noted_where c.self.inside.notes.noted.items d among in
-    rw c.deref-5.ensures.value at (c.in_err-vertex.ensures.none r.0 d (ap (is_among r.0) c.deref-3.ensures.value
-    ∙ c.self.invariant.notes_are.queue_has r.0 d r.2) (rw c.deref-4.ensures.value r.2)) in
+    search (rules, c.in_err-vertex.ensures.none r.0 d, c.self.invariant.notes_are.queue_has r.0 d r.2) in
     (λ _. rw (← c.self.view_is) (over_where now none settled), λ _. c.from_residual.ensures)
 
 pub returns-clause-settles : goal.returns-clause-settles

@@ -1,8 +1,8 @@
-use Rattle.std.proofs.Common.{rules, length, sym, subst, ap, ◌∙◌, refl, arith}
+use Rattle.std.proofs.Common.{rules, length, sym, ap, ◌∙◌, refl, arith}
 use Rattle.qm_trace.proofs.Fewer.{rode_counted, rode_waits, rides, as_read, event_on}
 use Rattle.qm_trace.proofs.Reaching.{ride_alone, ride_dart, ride_few, ride_fresh, ride_noted}
 use Rattle.{std.proofs.lemmas.List.length-set, std.proofs.lemmas.List.with_items_is, def_cut.specs.Events.Event.Ride}
-use Rattle.{def_cut.specs.Views.IsMotionOn, qm_trace.proofs.Ends.starts_few, qm_trace.proofs.Counting.tally_few}
+use Rattle.{qm_trace.proofs.Ends.starts_few, qm_trace.proofs.Counting.tally_few}
 use Rattle.qm_trace.proofs.motion.Motion.ride.Goals as goal
 
 pub overflow_add-rider : goal.overflow_add-rider
@@ -55,5 +55,5 @@ pub returns-clause-motion : goal.returns-clause-motion
 returns-clause-motion c =
     let k = rides c.vertices-vertices.ensures.mesh.manifold refl c.requires.motion c.args.r c.requires.rider
     c.requires.possible in
-    subst (IsMotionOn c.args.mesh.now) (sym (returns-clause-event c))
-    (event_on c.vertices-vertices.ensures.mesh.manifold c.requires.motion (Ride c.args.r) (k.low, k.may))
+    event_on c.vertices-vertices.ensures.mesh.manifold c.requires.motion (Ride c.args.r) (k.low, k.may)
+    (returns-clause-event c)

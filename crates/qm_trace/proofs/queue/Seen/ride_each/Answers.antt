@@ -4,8 +4,7 @@ use Rattle.qm_trace.proofs.queue.Seen.ride_each.Goals as goal
 
 pub slice_copy_out-rider : goal.slice_copy_out-rider
 slice_copy_out-rider c =
-    let m = among_at c.args.queue.now c.loop-r.r-index c.loop-r-test.true in
-    omega (arith, c.requires.low _ m, c.loop-r.auto.riders)
+    let m = among_at _ _ c.loop-r-test.true in omega (arith, c.requires.low _ m, c.loop-r.auto.riders)
 
 pub ride_one-requires : goal.ride_one-requires
 ride_one-requires c =
