@@ -99,15 +99,15 @@ pub next_on : {faces : Faces} {marks : List Bool} {k : ℕ} {riders : List Movin
 next_on {queue = []} t q some way more e = absurd (omega arith)
 next_on {faces} {marks} {k} {riders} {queue = r ∷ queue} t q some way more e =
     let p = q.runs r (among_here r r queue refl) in
-    elim (cases_List (ridden now.riders)) [
-      | inl none ↦ absurd (false≢true (sym (search rules) ∙ runs_ridden riders r p.0 p.1))
-      | inr (d, ds, some) ↦
-          let plus : k + 1 ≡ suc k = omega arith in
-          rw plus (sym (runs_on (terrain_of faces) more d ds now some) ∙ way (suc more) (omega (arith, e)))
-    ]
-  where
-    now : State
-    now = state_at faces marks k
+    let plus : k + 1 ≡ suc k = omega arith in
+    rw plus (search (
+      rules,
+      t.riders_are,
+      cases_List (ridden (state_at faces marks k).riders),
+      runs_ridden riders r p.0 p.1,
+      runs_on (terrain_of faces) more,
+      way (suc more),
+    ))
 
 -- Where nobody rides, the tables are those of the end.
 pub end_at : {faces : Faces} {marks : List Bool} {k : ℕ} {riders : List Moving} {stood covered taken : List Bool}

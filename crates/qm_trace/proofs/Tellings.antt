@@ -6,8 +6,8 @@ use Rattle.std.proofs.{lemmas.List.Folds.list_any-append, lemmas.List.Elements.f
 use Rattle.std.proofs.lemmas.Bool.{cases_eq, eq-eqb, or_right}
 use Rattle.std.proofs.lemmas.List.{take_more, get_or-set_same, get_or-set_other, length-set}
 use Rattle.def_cut.specs.{FullCut.is_on, declared.moving.Moving.Moving, declared.graph.Stop.Stop, Traced.terrain_of}
-use Rattle.def_cut.specs.Events.{rider_at, more_if, note_at, told}
-use Rattle.def_cut.specs.Motion.{is_among, begun, or_else, straight}
+use Rattle.def_cut.specs.Events.{rider_at, note_at, told}
+use Rattle.def_cut.specs.Motion.{is_among, begun}
 use Rattle.def_mesh.specs.Darts.{darts, from_of, next_of, prev_of, to_of}
 use Rattle.motion_laws.proofs.Among.{apart_filter, range_apart, cases_Option}
 use Rattle.motion_laws.proofs.Marks.{among_at, noted_among, noted_where}
@@ -109,20 +109,9 @@ module _ {faces : Faces} {site : Site} {notes : Notes} {riders : Riders} {r : �
       → AreCounted new notes.noted.items
   told_counted b list less is fewer = record {
     long = rw list (counted.long ∙ sym (length-set rs r then));
-    running = search (rules, runs, tally_rider);
-    untold = rw list (omega (
-      arith,
-      rw (may.untold, ended stop may.onward) at (tally_rider is_untold rs noted r then may.rider noted_low),
-    ));
+    running = search (rules, tally_rider);
+    untold = search (rules, may.untold, may.onward, tally_rider is_untold rs noted r then may.rider noted_low);
   }
-    where
-      runs : (o : Option Stop) → more_if (runs_on (told (terrain_of faces) rider.dart rider o) (note_at noted r)) 0
-          + cond (is_some (told (terrain_of faces) rider.dart rider o).stop) 1 0 ≡ 1
-      runs o = search rules
-
-      ended : (o : Option Stop) → (o ≡ None → or_else (straight (terrain_of faces) rider.dart) rider.dart ≢ rider.dart)
-          → is_untold (told (terrain_of faces) rider.dart rider o) (note_at noted r) ≡ false
-      ended o f = search rules
 
 -- Whoever is told along the whole fan is told at the vertex.
 pub told_all_along : {faces : Faces} {site : Site} {v : ℕ} {notes : Notes} {old : Riders} → CanTell faces site v notes
