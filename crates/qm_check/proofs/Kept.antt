@@ -1,5 +1,5 @@
 -- What is kept by certificates that are checked, and why none is.
-use Rattle.std.proofs.Common.{rules, ap, ◌+◌, refl, ◌++◌, subst, [], ℕ, ◌∷◌, inl, arith, length, List, ◌∙◌, ◌≡◌, inr}
+use Rattle.std.proofs.Common.{rules, ap, ◌+◌, refl, ◌++◌, subst, [], ℕ, ◌∷◌, arith, length, List, ◌∙◌, ◌≡◌, inr}
 use Rattle.def_layout.specs.{Layouts.Layout, Layouts.gluing_of, Lengths.Lengths, Gluings.Gluing}
 use Rattle.def_run.specs.Judging.{AreWrong, AreFront, first_of, IsWrong}
 use Rattle.def_run.specs.{declared.check_fail.CheckFail.CheckFail}
@@ -116,10 +116,7 @@ module _ {wish : Wish} {layout : Layout} {settings : Settings} {start : Network}
   pub unused_there : (after : Certificates) (cert : Cert) (fail : CheckFail) → lists_of cert ≡ first_of after
       → GivesNone layout net cert fail → IsUnused wish layout settings (risen_by rounds after) fail
   unused_there after cert fail first = unused_by wish layout net settings (risen_by rounds after) cert fail
-      (λ why none. wrong_there after why ((elim after as (λ told. IsWrong wish layout settings floors
-      (first_of told) why → AreWrong wish layout settings floors (1 + length rounds) told why)
-      [ alone cert ↦ λ bad. inl bad | _ ↦ λ bad. inl bad ])
-      (subst (λ (c : Lists). IsWrong wish layout settings floors c why) first (wrong_of cert why passed.risen none))))
+      (λ why none. search (rules, wrong_there after why, first, wrong_of cert why passed.risen none))
 
   -- It is the last, and its lengths double an edge.
   pub unused_last : (cert : Cert) {u v : ℕ} → IsSolution net (certificate cert)
@@ -135,13 +132,14 @@ module _ {wish : Wish} {layout : Layout} {settings : Settings} {start : Network}
   unused_rises round after number _ numbered doubling none = search none
 
   -- One more is passed.
-  pub passed_more : (round : Round) (next : Network) → IsDoubling wish layout settings floors (lists_of round.cert)
+  pub passed_more : (round : Round) (next : Network) {u v : ℕ} → IsSolution net (certificate round.cert)
+      → Gives layout net round.cert.x.items (Doubled u v)
       → AreNeeded (gluing_of layout) (lengths_in round.cert.x.items) round.rises.items
       → HasFloors net (risen_floors round.rises.items (floor_of net.arcs)) next
       → ArePassed wish layout settings start (rounds ++ round ∷ []) next
-  passed_more round next doubling needed has = record {
-    led = led_more (IsCertified wish layout settings) layout rounds round (given_floors settings) passed.led doubling
-        needed;
+  passed_more round next solution gives needed has = record {
+    led = led_more (IsCertified wish layout settings) layout rounds round (given_floors settings) passed.led
+        (doubling_of round.cert passed.risen solution gives) needed;
     risen = rw behind_more
         (net_risen layout settings round.cert.x.items round.rises.items net next passed.risen needed has);
     even = λ x. floors_deviation net (risen_floors round.rises.items (floor_of net.arcs)) next has x ∙ passed.even x;

@@ -1,11 +1,11 @@
 -- The map of bytes that have one, and what is said of those that have none.
-use Rattle.std.proofs.Common.{rules, Option, ◌∙◌, sym, inr, take, None, arith, refl, ◌≡◌, ℕ, ap, subst, ◌↔◌, ◌≤◌, Some}
+use Rattle.std.proofs.Common.{rules, Option, ◌∙◌, sym, inr, take, None, arith, ◌≡◌, ℕ, ap, subst, ◌↔◌, ◌≤◌, Some}
 use Rattle.def_run.specs.Map.{IsHeadedBy, IsMapOf, HasOtherText, asks_of, HasMap, IsNotRefined, IsUnfinished, IsUnlike}
 use Rattle.def_run.specs.{Map.WritesNew, Check.head_of, declared.command.Command.Command, Judging.IsReason}
 use Rattle.def_run.specs.{Remesh.IsTracedLayout, Remesh.WritesFinished, Mesh.IsMeshText}
 use Rattle.def_run.specs.{declared.check_fail.CheckFail.CheckFail, MapFails.IsMapFail, declared.answer.Why.Why}
 use Rattle.def_run.specs.declared.check_fail.CheckFail.TheVariants.{NotAccepted, NotManifold, Tangled, Far, Marks, Old}
-use Rattle.def_run.specs.declared.command.Command.TheVariants.{Fit, Crease, Refine, Coarse, Size, Remesh}
+use Rattle.def_run.specs.declared.command.Command.TheVariants.{Refine}
 use Rattle.def_run.specs.MarkLines.{IsMarkLine, IsLastMark, front_of, HasNoMark, begins_mark}
 use Rattle.qm_check.specs.Making.{IsReadyFor, IsFound, IsUnmade, HasMapOf, IsGivenTo}
 use Rattle.qm_check.specs.{Multiples.HasNoPoints, Multiples.IsRefinedBy, Ready.IsOld, Ready.IsNoOld}
@@ -29,8 +29,7 @@ unmarked_bytes bytes none = search rules
 -- Where a new mesh is written there is an old one.
 new_mesh : (command : Command) (front text : Bytes) → WritesNew command front text → (soup : FaceSet)
     × IsMeshText front soup
-new_mesh (Refine by) front text wrote = (wrote.soup, wrote.mesh)
-new_mesh _ front text wrote = (wrote.soup, wrote.mesh)
+new_mesh command front text wrote = search rules
 
 module _ (bytes : Bytes) (line : ℕ) (last : IsLastMark (lines_of bytes) line) where
   line_is : (has : HasMap bytes) → has.1.line ≡ line
@@ -75,18 +74,13 @@ map_is : (command : Command) (front text : Bytes) (wrote : WritesFinished (asks_
     → IsMapOf command front text (written_by command front text wrote) (map_text wrote.soup wrote.shown.finished.layout
     wrote.task.shares (lengths_in (used wrote.shown.finished.certificates).x))
 unfolding written_by
-map_is (Remesh settings auto) front text wrote = refl
-map_is (Crease settings) front text wrote = refl
-map_is (Size edge floor) front text wrote = refl
-map_is (Coarse settings) front text wrote = refl
-map_is (Fit fit) front text wrote = refl
-map_is _ front text wrote = absurd wrote.asked
+map_is (Refine by) front text wrote = absurd wrote.asked
+map_is _ front text wrote = search rules
 
 -- What is not as its task is not what its command writes.
 unlike_of : (command : Command) (bytes : Bytes) (line : ℕ) (why : Why) → IsUnfinished (asks_of command) bytes line why
     → IsUnlike command bytes line why
-unlike_of (Refine by) bytes line why none = absurd none.mesh.asked
-unlike_of _ bytes line why none = none
+unlike_of command bytes line why none = search rules
 
 module _ {bytes : Bytes} {line : ℕ} {old : FaceSet} {command : Command} (given : IsGivenTo bytes line old command) where
   abbrev front : Bytes
@@ -142,10 +136,7 @@ module _ {bytes : Bytes} {line : ℕ} {old : FaceSet} {command : Command} (given
 
     pub text_fails : (fail : CheckFail) → IsTextFail (judged_by bytes line ready.cut for.task) fail
         → IsMapFail bytes fail
-    text_fails (NotAccepted why.NoHead) both = absurd both
-    text_fails (NotAccepted why.Head) both = absurd both
-    text_fails (NotAccepted why) both = other why both
-    text_fails _ none = search none
+    text_fails fail both = search (rules, other)
 
   -- A text that the command wrote has its map.
   pub mapped : {finished : Finished} → IsFound command front text finished → HasMapOf bytes finished.new
@@ -190,7 +181,6 @@ module _ {bytes : Bytes} {line : ℕ} {by : ℕ} {cut : CutSoup} (given : IsGive
   pub no_points : (fail : CheckFail) → HasNoPoints by cut.layout fail → IsMapFail bytes fail
   no_points (NotAccepted (why.TooFine faces)) fine =
       refined_other (why.TooFine faces) fine (λ few written. absurd (omega (arith, few, fine.0, fine.1)))
-  no_points (NotAccepted _) none = absurd none
   no_points _ none = search none
 
   module _ {new : Regrid} (are : IsRefinedBy by cut new) where
@@ -200,7 +190,6 @@ module _ {bytes : Bytes} {line : ℕ} {by : ℕ} {cut : CutSoup} (given : IsGive
     other_refined (NotAccepted (why.Byte at)) differ =
         let moved = rw (are.soup, are.layout) at differ in
         refined_other (why.Byte at) (are.few, moved) (λ few written. moved.there (ap (take at) written))
-    other_refined (NotAccepted _) differ = absurd differ
     other_refined _ differ = search differ
 
     -- It is that of the refined mesh.

@@ -2,7 +2,7 @@
 use Rattle.std.proofs.Common.{rules, ◌≡◌, ◌≢◌, ◌≤◌, ◌+◌, ◌-◌, ℕ, suc, [], ◌∷◌, ◌++◌, length, take, refl, ap, sym, ◌∙◌}
 use Rattle.std.proofs.Common.{subst, arith, append-nil, length-append, Ok, inr, Bool, inl}
 use Rattle.std.proofs.{Math.Seq.take-append_seam, lemmas.Bool.false≢true}
-use Rattle.def_run.specs.declared.check_fail.CheckFail.TheVariants.{NotAccepted, Far, Marks, Tangled, NotManifold, Old}
+use Rattle.def_run.specs.declared.check_fail.CheckFail.TheVariants.{NotAccepted, Far, Tangled, NotManifold, Old}
 use Rattle.def_run.specs.Check.{IsNoPair, IsCountedPair, IsAsked, head_of, HasOldSoup, RefusesOldText}
 use Rattle.def_run.specs.{Judging.DifferFrom, Judging.IsReason, declared.check_fail.CheckFail.CheckFail}
 use Rattle.def_run.specs.{CheckFails.IsPairFail, Remesh.IsTracedLayout, declared.command.Command.TheVariants.Remesh}
@@ -188,7 +188,6 @@ module _ {bytes front : Bytes} {line : ℕ} {soup : FaceSet} {settings : Setting
       )
   unmade_fails (Far sum) (inl none, never) = absurd none
   unmade_fails (Far sum) (inr (task, layout, has, none), never) = absurd none
-  unmade_fails (Marks fail) (none, other, never) = absurd none
   unmade_fails _ none = search none
 
   module _ {ready : Ready} (for : IsReadyFor (Remesh settings auto) front ready) (same : ready.cut.soup ≡ soup) where

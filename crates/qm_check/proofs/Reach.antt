@@ -1,18 +1,17 @@
 -- The certificates that lines tell are within the limits of the checker.
 use Rattle.std.proofs.Common.{rules, true, [], refl, List, ◌+◌, ◌^◌, ℤ, pos, ◌∷◌, inl, get_or, ℕ, sym, ◌≤◌, suc, ◌≡◌}
 use Rattle.std.proofs.Common.{arith, drop, length, ap, ◌<◌, subst, length-append, ◌∙◌, false, if◌then◌else◌, ◌-◌, inr}
-use Rattle.std.proofs.lemmas.Bool.{cases_Bool, and_from, and_parts, ltb-true, cases_lt, false≢true, leb-true}
+use Rattle.std.proofs.lemmas.Bool.{and_from, and_parts, ltb-true, cases_lt, false≢true, leb-true}
 use Rattle.std.proofs.lemmas.List.{length-map, length-drop, get_or_append_left, length-take}
 use Rattle.std.proofs.lemmas.List.Sums.{count_by-le-length, length-filter}
 use Rattle.{std.proofs.Math.Seq.get_or-append_right, def_text.specs.declared.limits.TheConstants.MAX_BYTES}
 use Rattle.{def_io.specs.Bytes.Bytes, qm_check.specs.Checked.AreInReach, qm_check.specs.Checked.IsInReach}
 use Rattle.{def_io.specs.Lines.lines_of, remesh_laws.proofs.Solved.all_drop, remesh_laws.proofs.Solved.all_take}
-use Rattle.{std.specs.Prelude.◌==◌, std.specs.Prelude.⊤, std.specs.Prelude.unsigned_abs, qm_io.proofs.Cuts.lines_few}
+use Rattle.{std.specs.Prelude.⊤, std.specs.Prelude.unsigned_abs, qm_io.proofs.Cuts.lines_few}
 use Rattle.{def_certtext.specs.declared.CertLine.CertLine, def_flow.specs.declared.limits.TheConstants.MAX_LENGTH}
 use Rattle.std.specs.List.{list_all, after_first, list_any, flat_map, before_first}
 use Rattle.def_certtext.specs.Reading.{TellCerts, lists_in, is_third, set_in, vertex_in, certificates_in, is_hash_line}
 use Rattle.def_certtext.specs.Reading.{may_stand, certificates_by, length_in}
-use Rattle.def_certtext.specs.declared.CertLine.TheVariants.{Set, Rise, Vertex, Length, Floor}
 use Rattle.def_certtext.specs.CertLines.{raised, Certificates, alone, line_text}
 use Rattle.def_certtext.specs.Rounds.{put_rise, Part, parts_of, put_line}
 use Rattle.def_certtext.specs.declared.certs.Rising.TheVariants.{Never, Rounds, Third}
@@ -40,33 +39,21 @@ each_in P rising f d one (line ∷ said) all k l = elim (cases_lt k (length (f l
 -- No floor is named where floors do not rise.
 no_floor : (said : List CertLine) → list_all (may_stand Never) said ≡ true → list_any is_third said ≡ false
 no_floor [] all = refl
-no_floor (Floor f ∷ said) all = absurd (false≢true all)
-no_floor (Rise r ∷ said) all = absurd (false≢true all)
-no_floor (_ ∷ said) all = no_floor said (and_parts _ _ all).1
+no_floor (line ∷ said) all =
+    let rest = no_floor said (and_parts (may_stand Never line) (list_all (may_stand Never) said) all).1 in search rules
 
 module _ (rising : Rising) where
   in_reach : (said : List CertLine) → list_all (may_stand rising) said ≡ true → length said ≤ MAX_BYTES
       → IsInReach (lists_in said)
   in_reach said all few = record {
-    few = omega (arith, few, few_in length_in (elim [ Length n ↦ omega arith | _ ↦ omega arith ]) said);
-    short = each_in (λ (n : ℕ). n ≤ MAX_LENGTH) rising length_in 0 (elim [
-      | Length n ↦ λ may k l. let first : k ≡ 0 = omega (arith, l) in rw first (leb-true n MAX_LENGTH may)
-      | _ ↦ λ may k l. absurd (omega (arith, l))
-    ]) said all;
+    few = omega (arith, few, few_in length_in (λ line. grind arith) said);
+    short = each_in (λ (n : ℕ). n ≤ MAX_LENGTH) rising length_in 0 (λ line may k l. search (rules, leb-true)) said all;
     small = record {
-      sets = omega (arith, few, few_in set_in (elim [ Set z u ↦ omega arith | _ ↦ omega arith ]) said);
-      small_y = each_in (λ (y : ℤ). unsigned_abs y < 10 ^ 18) rising vertex_in (pos 0) (elim [
-        | Vertex y u ↦ λ may k l.
-            let first : k ≡ 0 = omega (arith, l) in
-            rw first (ltb-true (unsigned_abs y) (10 ^ 18) (and_parts _ _ may).0)
-        | _ ↦ λ may k l. absurd (omega (arith, l))
-      ]) said all;
-      small_z = each_in (λ (z : ℤ). unsigned_abs z < 10 ^ 18) rising set_in (pos 0) (elim [
-        | Set z u ↦ λ may k l.
-            let first : k ≡ 0 = omega (arith, l) in
-            rw first (ltb-true (unsigned_abs z) (10 ^ 18) (and_parts _ _ may).0)
-        | _ ↦ λ may k l. absurd (omega (arith, l))
-      ]) said all;
+      sets = omega (arith, few, few_in set_in (λ line. grind arith) said);
+      small_y = each_in (λ (y : ℤ). unsigned_abs y < 10 ^ 18) rising vertex_in (pos 0)
+          (λ line may k l. search (rules, ltb-true, and_parts)) said all;
+      small_z = each_in (λ (z : ℤ). unsigned_abs z < 10 ^ 18) rising set_in (pos 0)
+          (λ line may k l. search (rules, ltb-true, and_parts)) said all;
     };
   }
 
@@ -102,21 +89,17 @@ line_both line (part ∷ parts) may = (omega arith, λ all. (and_from _ _ may al
 parts_both : (said : List CertLine) → list_all (may_stand Rounds) said ≡ true
     → (held (parts_of said) ≤ length said) × MayStand (parts_of said)
 parts_both [] all = (omega arith, tt)
-parts_both (Rise r ∷ said) all =
-    let (few, may) = parts_both said (and_parts _ _ all).1 in
-    let (same, stays) = rise_both r (parts_of said) in
-    (omega (arith, few, same), stays may)
 parts_both (line ∷ said) all =
-    let (few, may) = parts_both said (and_parts _ _ all).1 in
-    let (more, stays) = line_both line (parts_of said) (and_parts _ _ all).0 in
-    (omega (arith, few, more), stays may)
+    let (stands, rest) = and_parts (may_stand Rounds line) (list_all (may_stand Rounds) said) all in
+    let (few, may) = parts_both said rest in
+    search (rules, rise_both, line_both line (parts_of said) stands)
 
 parts_reach : (parts : List Part) → MayStand parts → held parts ≤ MAX_BYTES → AreInReach Rounds (certificates_by parts)
 parts_reach [] may few = in_reach Rounds [] refl (omega arith)
 parts_reach (part ∷ parts) may few =
     let first = in_reach Rounds part.said may.0 (omega (arith, few)) in
     let after = parts_reach parts may.1 (omega (arith, few)) in
-    elim (cases_Bool (length part.rises == 0)) [ inl on ↦ rw on first | inr off ↦ rw off (first, after, refl) ]
+    search (rules, first, after)
 
 -- Whatever way floors rise.
 all_in_reach : (rising : Rising) (said : List CertLine) → list_all (may_stand rising) said ≡ true

@@ -75,15 +75,13 @@ module _ (wish : Wish) (layout : Layout) (mesh : IsSomeLayout layout) (settings 
   none_wrong rising floors n (alone cert) why kept coarse whole (inl bad) = not_wrong floors cert why kept coarse bad
   none_wrong rising floors n (alone cert) (why.Doubled u v) kept coarse whole (inr lone) = whole u v lone.2.doubled
   none_wrong rising floors n (alone cert) _ kept coarse whole (inr lone) = lone
-  none_wrong rising floors n (raised first cert) why kept coarse whole (inl wrong) = search (rules, not_wrong)
-  none_wrong rising floors n (raised first cert) why kept coarse whole (inr (doubling, wrong)) =
-      not_wrong (λ arc. 3) cert why kept.2 coarse wrong
-  none_wrong rising floors n (risen first rises after) why kept coarse whole (inl wrong) = search (rules, not_wrong)
-  none_wrong rising floors n (risen first rises after) (why.Rises number) kept coarse whole (inr (doubling, inl bad)) =
-      bad.1 kept.2
-  none_wrong rising floors n (risen first rises after) _ kept coarse whole (inr (doubling, inl bad)) = bad
-  none_wrong rising floors n (risen first rises after) why kept coarse whole (inr (doubling, inr (needed, wrong))) =
-      none_wrong rising (risen_floors rises floors) (n + 1) after why kept.3 coarse whole wrong
+  none_wrong rising floors n (raised first cert) why kept coarse whole wrong =
+      search (rules, not_wrong floors first why, not_wrong (λ arc. 3) cert why)
+  none_wrong rising floors n (risen first rises after) why kept coarse whole wrong = search (
+    rules,
+    not_wrong floors first why,
+    none_wrong rising (risen_floors rises floors) (n + 1) after why kept.3 coarse whole,
+  )
 
 -- A task that is shown has a network that is not too tangled.
 pub shown_untangled : (task : Task) (soup : FaceSet) (text : Bytes) (layout : Layout) → IsSolid soup
@@ -123,8 +121,7 @@ module _ (bytes : Bytes) (line : ℕ) {task : Task} {cut : CutSoup} {frame : Fra
   -- The certificates that are compared with are those that were kept, and their text is the one that is given.
   other_fine : (told : Certificates) (why : Why) → told ≡ shown.finished.certificates
       → TellsOtherText (judged_by bytes line (record cut { layout = shown.finished.layout }) task) told why → ⊥
-  other_fine told (why.Byte at) are other = search (rules, front_whole)
-  other_fine told _ are other = other
+  other_fine told why are other = search (rules, front_whole)
 
   -- A text whose certificates or whose bytes are refused finishes no task.
   pub text_refuted : (why : Why) → IsWrongText (judged_by bytes line cut task) why → ⊥
@@ -169,14 +166,10 @@ module _ (wish : Wish) (layout : Layout) (settings : Settings) (why : Why)
     (whole : (floors : Lengths) (cert : Lists) → ¬ IsLoneDoubled wish layout settings floors cert why)
     (needed : (first : Lists) (rises : List Rise) (n : ℕ) → ¬ AreUnneeded layout first rises n why) where
   unsaid : (floors : Lengths) (n : ℕ) (told : Certificates) → ¬ AreWrong wish layout settings floors n told why
-  unsaid floors n (alone cert) (inl wrong) = fine floors cert wrong
-  unsaid floors n (alone cert) (inr lone) = whole floors cert lone
-  unsaid floors n (raised first cert) (inl wrong) = fine floors first wrong
-  unsaid floors n (raised first cert) (inr (doubling, wrong)) = fine (λ arc. 3) cert wrong
-  unsaid floors n (risen first rises after) (inl wrong) = fine floors first wrong
-  unsaid floors n (risen first rises after) (inr (doubling, inl bad)) = needed first rises (n + 1) bad
-  unsaid floors n (risen first rises after) (inr (doubling, inr (rise, bad))) =
-      unsaid (risen_floors rises floors) (n + 1) after bad
+  unsaid floors n (alone cert) wrong = search (rules, fine, whole)
+  unsaid floors n (raised first cert) wrong = search (rules, fine)
+  unsaid floors n (risen first rises after) wrong =
+      search (rules, fine, needed, unsaid (risen_floors rises floors) (n + 1) after)
 
 -- The network is that of the terms of the frame.
 pub net_is : {task : Task} {ready : Ready} → IsReady task ready
@@ -193,7 +186,6 @@ module _ (bytes : Bytes) (line : ℕ) {task : Task} {ready : Ready} (is : IsRead
   tells_nothing (NotAccepted (why.CertLine bad)) has =
       let moved = rw is.laid_out.terms at has in
       (moved, λ shown. line_refuted bytes line is.laid_out shown bad moved)
-  tells_nothing (NotAccepted _) has = absurd has
   tells_nothing _ has = search has
 
   -- What is wrong with a text shows that it finishes no task.
@@ -269,7 +261,6 @@ module _ (bytes : Bytes) (line : ℕ) {task : Task} {ready : Ready} (is : IsRead
             differ = subst (λ (t : Bytes). DifferFrom (text_in judged) t at) text differ;
           });
         })
-        other (NotAccepted _) differ = absurd differ
         other _ differ = search differ
 
         -- It is that of the task.

@@ -1,4 +1,4 @@
-use Rattle.{std.proofs.Common.refl, std.proofs.Common.sym, std.proofs.Common.◌∙◌, qm_asides.specs.Beside.asides_of}
+use Rattle.{std.proofs.Common.rules, std.proofs.Common.◌∙◌, qm_asides.specs.Beside.asides_of}
 use Rattle.{error_laws.proofs.Errors.handed, qm_check.specs.Ready.IsOld}
 use Rattle.qm_check.proofs.Tasks.{aside_unmade, full, net_unmade, only_for, task, IsCutBy}
 use Rattle.qm_check.proofs.{Points.point_of, making.ready_for.Goals.After-new-cut}
@@ -40,21 +40,10 @@ returns-clause-ready c command is =
     let old = old_is at in
     let by = cut_is at in
     let whole = full point old by in
+    let shares = rw c.deref-2.ensures.value at (c.in_ok-shares.ensures by.edges whole by.laid) in
+    let net = rw c.deref.ensures.value at c.in_ok-net.ensures.net in
     record {
       task = task point old by;
       only = only_for point old by (rw c.deref.ensures.value at c.in_ok-net.ensures.near);
-      holds = record {
-        laid_out = record {
-          solid = old.solid;
-          full = whole;
-          laid = by.laid;
-          range = point.range;
-          terms = c.terms_of.ensures;
-          head = c.in_ok-head.ensures;
-          inside = point.inside;
-          between = λ layout new. refl;
-          shares = sym (rw c.deref-2.ensures.value at (c.in_ok-shares.ensures by.edges whole by.laid));
-        };
-        net = rw c.deref.ensures.value at c.in_ok-net.ensures.net;
-      };
+      holds = search (rules, point, old, by);
     }

@@ -76,11 +76,9 @@ rounds-preserved c =
       left = rw (more, append_assoc) (left_is (goal.at.rounds-preserved c).In-Some);
       many = omega (arith, c.rounds.invariant.many, ap length c.in-Some.ensures.steps.0);
       passed = λ wish for.
-          let passed = c.rounds.invariant.passed wish for in
-          rw more (passed_more passed c.in-Some.round (network c.with_rises-net.result)
-          (doubling_of c.in-Some.round.cert passed.risen c.in_ok-numbering.ensures.solved
-          (rw c.in-Doubled.is at c.in_ok-numbering.ensures.gives)) c.in_ok-check_rises.ensures.needed
-          (rw (← c.deref.ensures.value) c.with_rises-net.ensures));
+          rw more (passed_more (c.rounds.invariant.passed wish for) c.in-Some.round (network c.with_rises-net.result)
+          c.in_ok-numbering.ensures.solved (rw c.in-Doubled.is at c.in_ok-numbering.ensures.gives)
+          c.in_ok-check_rises.ensures.needed (rw (← c.deref.ensures.value) c.with_rises-net.ensures));
     }
 
 -- ---- Behind the last round.
