@@ -54,20 +54,15 @@ module _ {n : ℕ} {up out rank up2 : ℕ → ℕ} {inside : ℕ → Bool} {b : 
   on_way_ne : (v x : ℕ) → v < n → On v x → x ≢ b
   on_way_ne v x l w e = not_new v w.0 l (w.1 ∙ e)
 
-  abbrev pub fresh : ℕ → ℕ
-  fresh v = cond (inside (out v)) b (out v)
-
   -- What holds where one stays, and a step before where it holds, holds of the way from a vertex.
   climbing : (P : ℕ → ℕ → Type 0) (v : ℕ) → v < n → ((m x : ℕ) → On v x → up x ≡ x → P (suc m) x)
       → ((m x : ℕ) → On v x → up x ≢ x → P (suc m) (up x) → P (suc (suc m)) x) → P n v
   climbing P v l top step = by_size n refl
     where
       from : (m x : ℕ) → On v x → rank (out v) ≤ rank x + m → P (suc m) x
-      from zero x w h = elim (cases_eq (up x) x) [
-        | inl at ↦ top 0 x w at
-        | inr inner ↦ (let top = rank_low rank climb rises v (up x) l (goes_on rank climb rises v x w) in
-            absurd (omega (arith, rises x inner)))
-      ]
+      from zero x w h =
+          let low = rank_low rank climb rises v (up x) l (goes_on rank climb rises v x w) in
+          search rules
       from (suc m) x w h = let more = from m (up x) (goes_on rank climb rises v x w) in search rules
 
       by_size : (k : ℕ) → k ≡ n → P n v
@@ -75,9 +70,9 @@ module _ {n : ℕ} {up out rank up2 : ℕ → ℕ} {inside : ℕ → Bool} {b : 
       by_size (suc m) e = subst (λ k. P k v) e (from m v (0, refl) (omega (arith, few v l, ones v l)))
 
   -- One comes to the new set, or to where one came.
-  pub climb_enclosed : IsClimb n up2 fresh
+  pub climb_enclosed : IsClimb n up2 (λ v. cond (inside (out v)) b (out v))
   climb_enclosed = record {
-    ends = λ v l. climbing (λ k x. walk up2 x k ≡ fresh v) v l (λ m x w top.
+    ends = λ v l. climbing (λ k x. walk up2 x k ≡ cond (inside (out v)) b (out v)) v l (λ m x w top.
         (let x_is = fixed_top rank climb rises v l w top in
         search (rules, walk_fixed, walk_front))) (λ m x w inner more. search (rules, walk_front));
     tops = λ v l. grind (arith, up_b, up_off (out v), climb.tops v l);
@@ -107,11 +102,12 @@ climbs_place up (suc k) b from on =
     ]
 
 -- Where one comes to from elsewhere one comes by a step.
-pub comes_by : (up : ℕ → ℕ) (v i : ℕ) {x : ℕ} → walk up v i ≡ x → v ≢ x → (y : ℕ) × (up y ≡ x) × (y ≢ x)
+pub comes_by : (up : ℕ → ℕ) (v i : ℕ) {x : ℕ} → walk up v i ≡ x → v ≢ x → (y : ℕ) × (up y ≡ x) × (y ≢ x) × (j : ℕ)
+    × (walk up v j ≡ y)
 comes_by up v zero e ne = absurd (ne e)
 comes_by up v (suc i) {x} e ne = elim (cases_eq (walk up v i) x) [
   | inl at ↦ comes_by up v i at ne
-  | inr off ↦ (walk up v i, e, off)
+  | inr off ↦ (walk up v i, e, off, i, refl)
 ]
 
 module _ {n size : ℕ} {hand top up rank parts leader first last following : List ℕ}
@@ -121,11 +117,7 @@ module _ {n size : ℕ} {hand top up rank parts leader first last following : Li
 
   -- What one comes to is in use.
   pub reached_used : (v i : ℕ) {x : ℕ} → v < n → walk (up_at up) v i ≡ x → IsInUse n parts x
-  reached_used v i {x} l e = elim (cases_eq v x) [
-    | inl at ↦ inl (subst (λ y. y < n) at l)
-    | inr ne ↦ (let w = comes_by _ v i e ne in
-        inr (rw w.1 at (nest.around w.0 (λ s. w.2 (sym s ∙ w.1))).1))
-  ]
+  reached_used v i {x} l e = grind (arith, cases_eq v x, comes_by (up_at up) v i e, nest.around)
 
   pub out_used : (v : ℕ) → v < n → IsInUse n parts (out v)
   out_used v l = reached_used v n l (nest.climb.ends v l)

@@ -7,8 +7,8 @@ use Rattle.def_forest.specs.{Forests.Forest, Forests.walk, declared.kinds.Label.
 use Rattle.def_forest.specs.{declared.kinds.Label.Label, Darts.Darts, Darts.darts_of, Opened.IsExpanding, Ways.dart_or}
 use Rattle.qm_forest.specs.Parts.{hung, paired, side_dart, turn_label, HasOpened, IsCourse, IsParted}
 use Rattle.qm_forest.specs.Ties.{AreTied, HiddenTables, HasSameNest, labelled, linked, mated, fixed_of}
-use Rattle.qm_forest.proofs.Openings.{CanOpen, are, inside as the_inside, in_tree, joined, mate_is, part_low, ring_from}
-use Rattle.qm_forest.proofs.{Openings.first_in, Openings.last_in, Openings.tree_is, Routes.expanding, Routes.laid}
+use Rattle.qm_forest.proofs.Inners.{CanOpen, are, inside as the_inside, in_tree, mate_is, part_low, tree_is}
+use Rattle.qm_forest.proofs.Openings.{expanding, first_in, joined, laid, last_in, ring_from}
 use Rattle.qm_forest.proofs.{Enclosed.leader_out, TiedWrites.outermost_low, OnWays.valid_as}
 use Rattle.forest_laws.proofs.{Walks.IsCircle, Expands.opened_valid}
 use Rattle.{def_matching.specs.Matching.WeightedGraph, forest_laws.specs.Walks.listed}

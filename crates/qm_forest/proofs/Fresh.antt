@@ -1,10 +1,10 @@
 -- Climbing from two vertices of one blossom until one meets: what is passed on the way is what lies around just one.
-use Rattle.std.proofs.Common.{rules, ◌≡◌, ◌≢◌, ℕ, zero, suc, ◌+◌, ◌*◌, ◌<◌, ◌≤◌, ◌^◌, Bool, true, false, not, cond, eqb}
-use Rattle.std.proofs.Common.{◌||◌, ℤ, pos, ◌+ℤ◌, refl, sym, ◌∙◌, ap, arith, count_by, ◌-◌, ◌/◌, ◌%◌, ◌⊎◌}
-use Rattle.std.proofs.Common.{Some, None, inl, inr, max, List, length, get_or, replicate, ◌*ℤ◌, ◌≤ℤ◌, [], ◌∷◌}
+use Rattle.std.proofs.Common.{rules, ◌≡◌, ◌≢◌, ℕ, zero, suc, ◌+◌, ◌*◌, ◌<◌, ◌≤◌, ◌^◌, Bool, true, false, cond, eqb}
+use Rattle.std.proofs.Common.{◌||◌, ℤ, pos, ◌+ℤ◌, refl, sym, ◌∙◌, ap, arith, count_by, ◌/◌, ◌%◌, ◌⊎◌, Some, None, inl}
+use Rattle.std.proofs.Common.{inr, max, List, length, get_or, replicate, ◌*ℤ◌, ◌≤ℤ◌, [], ◌∷◌}
 use Rattle.std.proofs.lemmas.Bool.{cond-true, eq-eqb, eqb-true, cases_eq, ne_eqb}
 use Rattle.std.proofs.{lemmas.Int.ints, lemmas.List.get_or-replicate, lemmas.List.length-replicate}
-use Rattle.std.proofs.{lemmas.List.get_or_past, lemmas.List.Folds.sum_by-replicate, lemmas.List.Sums.sum_by-cons}
+use Rattle.std.proofs.lemmas.List.{get_or_default, get_or_past, Folds.sum_by-replicate, Sums.sum_by-cons}
 use Rattle.sum_laws.proofs.Sums.{total_below_same, total_below_sum, total_below_one, total_below_none, count_below_none}
 use Rattle.def_forest.specs.Forests.{splits, walk, weight_between, dual_sum_of}
 use Rattle.def_forest.specs.Tables.{climbs, size_of, ForestTables, forest_of, up_at, label_at, out_of, IsValidFor}
@@ -14,10 +14,9 @@ use Rattle.forest_laws.proofs.{Walks.walk_fixed, Walks.walk_front, Walks.walk_su
 use Rattle.forest_laws.proofs.{Grows.load_across, Bounds.eqb_order, Bounds.near_even, Bounds.near_odd, Bounds.twin_odd}
 use Rattle.qm_forest.specs.Ties.{IsClimb, apart, AreTied, HiddenTables, IsFresh, AreStarts, HasLowCosts, IsGreatestTo}
 use Rattle.qm_forest.specs.Ties.{IsLowered, potential, added, relabelled}
-use Rattle.qm_forest.proofs.TiedWrites.{sum_small, read_nat, tied_as, numbers_as, sizes_kept}
+use Rattle.qm_forest.proofs.TiedWrites.{sum_small, tied_as, numbers_as, sizes_kept}
 use Rattle.def_matching.specs.{Matching.WeightedGraph, Matching.IsGraph, Matching.edge_at}
-use Rattle.def_matching.specs.{declared.weighted.WEdge.WEdge}
-use Rattle.std.specs.Prelude.{unsigned_abs}
+use Rattle.{std.specs.Prelude.unsigned_abs, def_matching.specs.declared.weighted.WEdge.WEdge}
 
 -- What is passed twice.
 pub or_twice : (a : Bool) → (a || a) ≡ a
@@ -117,9 +116,7 @@ none_counted (m ∷ ms) none =
 
 module _ {t : ForestTables} {hid : HiddenTables} (tied : AreTied t hid)
     (outside : (k : ℕ) → k < length t.trail → label_at t.label (out_of t.hand t.top (get_or t.trail k 0)) ≡ Outside)
-    (marks : List Bool) (size : length marks ≡ length hid.touched) (old : (v : ℕ) → get_or marks v false ≡ true
-    → get_or hid.touched v false ≡ true) (gone : (k : ℕ) → k < length t.trail → get_or marks (get_or t.trail k 0) false
-    ≡ false) (trail : List ℕ) (empty : length trail ≡ 0) (room : ℕ) (more : hid.room ≤ room) where
+    (trail : List ℕ) where
   -- All blossoms are outside: those that are not outermost have no place in the tree.
   all_outside : (b : ℕ) → label_at t.label b ≡ Outside
   all_outside b = search rules
@@ -136,8 +133,11 @@ module _ {t : ForestTables} {hid : HiddenTables} (tied : AreTied t hid)
   pub seen_forgotten : forest_of forgotten ≡ relabelled (forest_of t) (λ b. Outside)
   seen_forgotten i = record (forest_of t) { weight = weight_same i; label = λ b. all_outside b i }
 
-  pub tied_forgotten : AreTied forgotten (record hid { touched = marks; room = room })
-  tied_forgotten = record {
+  pub tied_forgotten : {marks : List Bool} → length marks ≡ length hid.touched
+      → ((v : ℕ) → get_or marks v false ≡ true → get_or hid.touched v false ≡ true)
+      → ((k : ℕ) → k < length t.trail → get_or marks (get_or t.trail k 0) false ≡ false) → length trail ≡ 0
+      → {room : ℕ} → hid.room ≤ room → AreTied forgotten (record hid { touched = marks; room = room })
+  tied_forgotten {marks} size old gone empty more = record {
     sizes = sizes_kept tied.sizes refl refl refl size more;
     nest = tied.nest;
     numbers = numbers_as tied.numbers weight_same (λ v l. ap (λ (x : ℤ). get_or hid.off (get_or t.hand v 0) (pos 0)
@@ -166,7 +166,7 @@ climbs_self up (suc k) b {v} e = rw (e, climbs_self up k b e) (or_twice _)
 
 module _ {n size : ℕ} {lows : List ℤ} {t : ForestTables} {hid : HiddenTables} (fresh : IsFresh n size lows t hid) where
   up_self : (b : ℕ) → up_at t.up b ≡ b
-  up_self b = grind (arith, read_nat t.up b b 0, get_or_past t.up b b, fresh.up.size, fresh.up.each b)
+  up_self b = grind (arith, get_or_default t.up b b 0, get_or_past t.up b b, fresh.up.size, fresh.up.each b)
 
   out_is : (v : ℕ) → v < n → out_of t.hand t.top v ≡ v
   out_is v l = ap (λ k. get_or t.top k 0) (fresh.hand.each v l) ∙ fresh.top.each v l
@@ -174,11 +174,8 @@ module _ {n size : ℕ} {lows : List ℤ} {t : ForestTables} {hid : HiddenTables
   label_is : (b : ℕ) → label_at t.label b ≡ Outside
   label_is b = same_everywhere size Outside fresh.label b
 
-  change_none : (b : ℕ) (d : ℤ) → weight_change (label_at t.label b) d ≡ pos 0
-  change_none b d = ap (λ (l : Label). weight_change l d) (label_is b)
-
   pub weight_is : (b : ℕ) → (forest_of t).weight b ≡ get_or lows b (pos 0)
-  weight_is b = omega (arith, ints, fresh.base b, change_none b t.delta)
+  weight_is b = omega (arith, ints, fresh.base b, ap (λ (l : Label). weight_change l t.delta) (label_is b))
 
   holds_is : (b v : ℕ) → (forest_of t).holds b v ≡ eqb v b
   holds_is b v = climbs_self _ _ b (up_self v)
@@ -198,33 +195,17 @@ module _ {n size : ℕ} {lows : List ℤ} {t : ForestTables} {hid : HiddenTables
 
   -- The tie, where the weights are small: each is the list of itself.
   pub fresh_tied : ((v : ℕ) → unsigned_abs (get_or lows v (pos 0)) ≤ 2 ^ 60) → AreTied t hid
-  fresh_tied small = tied_as fresh.hand.size fresh.up.size (omega (arith, ap length fresh.kept, long_as)) (record {
-    hands = λ v l. rw (fresh.hand.each v l, fresh.top.size) l;
-    outs = λ h l. (let lh : h < n = rw fresh.top.size at l in rw (fresh.top.each h lh) (omega arith));
-    ups = λ b l. rw (fresh.up.each b l) l;
-    climb = record { ends = λ v l. walk_fixed _ n (up_self v) ∙ sym (out_is v l); tops = λ v l. up_self _ };
-    led = search rules;
-    leaders = search (rules, used_low);
-    members = λ x lx used. (let l = used_low x used in
-        search (rules, rank_is, climbs_self));
-    ended = λ x y k lx ly ux uy l e. absurd (omega (arith, rank_is y (used_low y uy)));
-    idle = λ x high none. up_self x;
-    rises = λ x inner. absurd (inner (up_self x));
-    around = λ x inner. absurd (inner (up_self x));
-  }) (record {
-    potentials = λ v l. potential_is v (omega arith) ∙ (search (rules, added_is));
-    small = λ b. omega (arith, ints, weight_is b, small b);
-    start = dual_sum_of (forest_of t);
-    small_start = search (rules, sum_small);
-    moved = λ v l. omega (arith, ints, added_is v);
-    risen = omega (arith, ints, fresh.delta);
-    still = λ none. fresh.delta;
-  }) (record {
-    low = λ k l. absurd (omega (arith, l, fresh.trail));
-    counted = fresh.trail ∙ sym (none_counted hid.touched (same_everywhere n false fresh.touched));
-    marked = λ v on. absurd (true_false on (same_everywhere n false fresh.touched v));
-    named = λ b named. absurd (named (label_is b));
-  }) (search (rules, long_as, same_everywhere, sum_by-replicate, count_below_none))
+  fresh_tied small = tied_as fresh.hand.size fresh.up.size (omega (arith, ap length fresh.kept, long_as))
+      (search (rules, out_is, up_self, used_low, rank_is, climbs_self, walk_fixed)) (record {
+        potentials = λ v l. potential_is v (omega arith) ∙ (search (rules, added_is));
+        small = λ b. omega (arith, ints, weight_is b, small b);
+        start = dual_sum_of (forest_of t);
+        small_start = search (rules, sum_small);
+        moved = λ v l. omega (arith, ints, added_is v);
+        risen = omega (arith, ints, fresh.delta);
+        still = λ none. fresh.delta;
+      }) (search (rules, none_counted, same_everywhere n false fresh.touched, label_is))
+      (search (rules, long_as, same_everywhere, sum_by-replicate, count_below_none))
 
   module _ (g : WeightedGraph) (is : IsGraph g) (n_is : n ≡ g.n) (costs : AreFeasible g lows) where
     outs : (v : ℕ) → v < g.n → (forest_of t).out v ≡ v
@@ -252,22 +233,12 @@ module _ {n size : ℕ} {lows : List ℤ} {t : ForestTables} {hid : HiddenTables
       ends = starts.each;
       valid = record {
         outermost = outermost;
-        nested = record {
-          alone = λ v w lv lw. holds_is v w ∙ eqb_order w v;
-          rings = λ b high live. absurd (live (same_everywhere size 0 fresh.parts b));
-          empty = λ b v high low none. holds_is b v ∙ ne_eqb v b (λ e. absurd (omega arith));
-          weightless = λ b high none. weightless b high;
-          live = λ p inner. absurd (inner (up_self p));
-          joints = λ p inner. absurd (inner (up_self p));
-        };
+        nested = search (rules, holds_is, eqb_order, ne_eqb, weightless, up_self, same_everywhere size 0 fresh.parts);
         feasible = record {
           sets = λ b high low. rw (weightless b high) (omega arith);
           darts = λ d low. (let l : d / 2 < length g.edges = omega arith in elim (cases_eq (d % 2) 0) [
             | inl even ↦ search (rules, near_odd, near_even, darts_of, feasible_dart)
-            | inr odd ↦ (let far = near_even g (d - 1) (d / 2) (omega arith) in
-                rw (near_odd g d (d / 2) (omega arith), ap (darts_of g).near (twin_odd d odd) ∙ far)
-                (feasible_dart _ _ _ (is.right (d / 2) l) (is.left (d / 2) l) (λ e. is.apart (d / 2) l (sym e))
-                (omega (arith, ints, costs.edges (d / 2) l))))
+            | inr odd ↦ search (rules, near_odd, near_even, twin_odd, darts_of, feasible_dart)
           ]);
         };
         matched = λ b d mate. absurd (cc (sym mate ∙ same_everywhere size None fresh.mate b));

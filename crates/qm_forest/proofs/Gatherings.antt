@@ -3,7 +3,7 @@
 use Rattle.std.proofs.Common.{rules, ◌≡◌, ◌≢◌, ℕ, suc, ◌-◌, ◌<◌, ◌≤◌, ◌^◌, Bool, true, false, cond, eqb, List, length}
 use Rattle.std.proofs.Common.{get_or, pos, Option, Some, None, refl, sym, ◌∙◌, ap, subst, inl, inr, length-set}
 use Rattle.std.proofs.{Common.get_or-set_same, Common.get_or-set_other, Common.arith, Math.ListN.set, lemmas.Int.ints}
-use Rattle.std.proofs.{lemmas.List.get_or_past, lemmas.Option.slice_get_within, lemmas.Grind.common_steps}
+use Rattle.std.proofs.lemmas.{List.get_or_default, List.get_or_past, Option.slice_get_within, Grind.common_steps}
 use Rattle.std.proofs.lemmas.Bool.{cases_eq, cases_Bool, cond-true, cond-false, eq-eqb, eqb-true}
 use Rattle.def_forest.specs.Tables.{ForestTables, forest_of, climbs, label_at, out_of, up_at}
 use Rattle.def_forest.specs.Forests.{walk, ring_sum, set_at}
@@ -19,7 +19,7 @@ use Rattle.qm_forest.proofs.{Shrinkings.seen_in, Shrinkings.hidden_in, Waitings.
 use Rattle.qm_forest.proofs.JoinedLists.{list_agrees, list_few, list_has_last, list_member, list_renamed, row_few}
 use Rattle.qm_forest.proofs.JoinedLists.{row_joined, walk_agrees, ring_sum_above}
 use Rattle.qm_forest.proofs.TiedWrites.{numbers_kept, tied_as, trail_kept, added_small, change_small, delta_small}
-use Rattle.qm_forest.proofs.TiedWrites.{outermost_low, read_nat, told_small, entry_set}
+use Rattle.qm_forest.proofs.TiedWrites.{outermost_low, told_small, entry_set}
 use Rattle.{def_forest.specs.declared.kinds.Label.TheVariants.Outside, forest_laws.specs.Walks.listed}
 use Rattle.{std.specs.Prelude.unsigned_abs, qm_pool.specs.declared.pool.Node.Node, sum_laws.proofs.Tests.same_test}
 
@@ -95,8 +95,7 @@ module _ {s : Inside} {pool2 : List (Option Node)} {front many b : ℕ} (taken :
 
   -- The new number lies on no way.
   no_out : (v : ℕ) → v < n → out v ≢ b
-  no_out v l e = elim (reached_used tied.nest v n l (tied.nest.climb.ends v l ∙ e))
-      [ inl lb ↦ absurd (omega (arith, high)) | inr live ↦ live dead ]
+  no_out v l e = grind (arith, reached_used tied.nest v n l (tied.nest.climb.ends v l ∙ e), high, dead)
 
   unused : (x : ℕ) → x ≢ b → up_at t.up x ≢ b
   unused x ne e = (tied.nest.around x (λ s. ne (sym s ∙ e))).1 (ap (λ y. get_or t.parts y 0) e ∙ dead)
@@ -162,14 +161,9 @@ module _ {s : Inside} {pool2 : List (Option Node)} {front many b : ℕ} (taken :
   }
 
   pub joinable : AreJoinable s.lists s.rings.after.items front many
-  joinable = record {
-    row = rw tied.sizes.after ring.row;
-    first = tied.sizes.first ∙ sym tied.sizes.after;
-    last = tied.sizes.last ∙ sym tied.sizes.after;
-    rank = tied.sizes.rank ∙ sym tied.sizes.after;
-    ends = λ k lk. rw tied.sizes.following (last_in k lk).0;
-    few = (let all = row_few n next _ first last rank front many out ring.row.distinct own_list in omega arith);
-  }
+  joinable =
+      let all = row_few n next _ first last rank front many out ring.row.distinct own_list in
+      search (rules, last_in)
 
   module _ {big : ℕ} (on : (k : ℕ) × (k < many) × (at k ≡ big)) where
     pub big_low : big < length s.lists.leader.items
@@ -273,8 +267,8 @@ module _ {s : Inside} {pool2 : List (Option Node)} {front many b : ℕ} (taken :
             hands = λ v lv. (let low = tied.nest.hands v lv in
                 grind (arith, length-set t.top handle b, hand_in v lv, hand_off v lv, handle_top));
             outs = λ k lk. grind (arith, common_steps, handle_top, set_low, tied.nest.outs k);
-            ups = λ x lx. rw (read_nat r2.up.items x 0 x (rw enclosed.size lx), ups x) (elim (cases_Bool (inside x))
-                [ inl marked ↦ rw marked set_low | inr off ↦ rw (off, read_nat t.up x x 0 lx) (tied.nest.ups x lx) ]);
+            ups = λ x lx. rw (get_or_default r2.up.items x 0 x (rw enclosed.size lx))
+                (grind (arith, ups x, get_or_default t.up x x 0 lx, tied.nest.ups x lx, set_low));
             climb = record {
               ends = λ v lv. (climb_enclosed enclosing).ends v lv ∙ sym (out_new v lv);
               tops = λ v lv. rw (out_new v lv) ((climb_enclosed enclosing).tops v lv);
@@ -380,5 +374,5 @@ module _ {s : Inside} {pool2 : List (Option Node)} {front many b : ℕ} (taken :
           let v = ring.root x is in
           let outside = unused x (λ same. no_out v.0 v.1 (v.2 ∙ same)) in
           let new : cond (eqb (get_or r2.up.items x 0) b) b x ≡ cond (inside x) b x =
-          grind (arith, read_nat r2.up.items x 0 x (rw enclosed.size (outermost_low tied x v)), ups x, outside) in
+          grind (arith, get_or_default r2.up.items x 0 x (rw enclosed.size (outermost_low tied x v)), ups x, outside) in
           cc

@@ -1,17 +1,16 @@
 -- The ways to the root in the tables of a valid forest, and such ways while they are laid.
 use Rattle.std.proofs.Common.{rules, ◌≡◌, ◌≢◌, ℕ, suc, ◌+◌, ◌-◌, ◌*◌, ◌<◌, ◌≤◌, true, false, length, min, Option, Some}
 use Rattle.std.proofs.Common.{None, refl, sym, ◌∙◌, ap, add-one, arith, ◌/◌, get_or}
-use Rattle.std.{proofs.Math.ListN.set, proofs.lemmas.Grind.get_or_default_zero, proofs.lemmas.List.get_or_past}
-use Rattle.std.{proofs.lemmas.List.length-replicate, specs.Prelude.is_some}
+use Rattle.{std.proofs.Math.ListN.set, std.proofs.lemmas.Grind.get_or_default_zero, std.proofs.lemmas.List.get_or_past}
+use Rattle.{std.proofs.lemmas.List.length-replicate, std.specs.Prelude.is_some, def_forest.specs.Needs.IsDartOf}
 use Rattle.def_matching.specs.Matching.{WeightedGraph, IsSmallGraph}
 use Rattle.def_forest.specs.Tables.{ForestTables, forest_of, IsValidFor, GraphSize, size_of, up_at}
 use Rattle.def_forest.specs.{Darts.Darts, Darts.AreDarts, Darts.darts_of, Darts.far, Forests.Forest, Forests.set_at}
 use Rattle.def_forest.specs.{Valid.IsValid, Valid.IsTree, Ways.dart_or, declared.kinds.Label.TheVariants.Outside}
-use Rattle.def_forest.specs.{Needs.IsDartOf}
-use Rattle.forest_laws.specs.Climbing.{rise_of, above_of, level_of, way_of, IsClimbing}
+use Rattle.forest_laws.specs.{Climbing.rise_of, Climbing.above_of, Climbing.level_of, Climbing.way_of, Walks.writes}
+use Rattle.forest_laws.{specs.Climbing.IsClimbing, proofs.Walks.walk_sum, proofs.WayLaws.some_none}
 use Rattle.forest_laws.proofs.Levels.{level_some, level_zero, on_way, step_up, at_root, way_step}
-use Rattle.forest_laws.proofs.{Grows.tree_of, Bounds.are_darts, Forks.can_climb, Forks.climb_on, Walks.walk_sum}
-use Rattle.forest_laws.proofs.{WayLaws.some_none}
+use Rattle.forest_laws.proofs.{Grows.named_low, Grows.tree_of, Bounds.are_darts, Forks.can_climb, Forks.climb_on}
 use Rattle.qm_forest.specs.Rings.{AreOnBoth, HasClimbed, ringed, IsRingedAlike, MayClimb, laid_down, laid_up, laid_ring}
 use Rattle.qm_forest.specs.{Needs.Hangs, Ties.AreTied, Ties.HiddenTables, Outlines.IsBlank, Rounds.HasRoom}
 use Rattle.qm_forest.specs.{Rounds.IsLaminar, Rounds.IsRound, Rounds.IsSoundFor, declared.rounds.Round.Round}
@@ -44,10 +43,6 @@ module _ {g : WeightedGraph} (is : IsSmallGraph g) {s : ForestTables} (valid : I
     rooted : IsValid darts f (Some the_tree.0)
     rooted = rw the_tree.1 at valid.valid
 
-    -- A blossom of the tree is outermost, so its number is low.
-    pub named_low : b < length s.up
-    named_low = let w = valid.valid.outermost.named b named in (rw w.2 at (valid.valid.outermost.out_low w.0 w.1))
-
     -- The dart up is one of the graph.
     pub rise_dart : (d : ℕ) → rise b ≡ Some d → IsDartOf g s d
     rise_dart d e = record { vertices = valid.vertices; dart = (step_up are rooted the_tree.2 b d named e).tight.low }
@@ -65,8 +60,8 @@ module _ {g : WeightedGraph} (is : IsSmallGraph g) {s : ForestTables} (valid : I
   place_on a named i l =
       let here = way_on a named i (omega arith) in (
         some_none _ _ (level_some are (rooted a named) (the_tree a named).2 _ here.0 (omega arith)).1,
-        named_low _ here.0,
-        named_low _ (way_on a named (suc i) l).0,
+        named_low are valid.valid here.0,
+        named_low are valid.valid (way_on a named (suc i) l).0,
         (way_step are (rooted a named) (the_tree a named).2 a i named l).tight.low,
       )
 
@@ -169,16 +164,12 @@ laid_place is t0 a steps may i l x_is t alike =
     let at = place_on is may.1 a may.3 i (omega arith) in
     rw (x_is, alike, may.2) (assumption (at, may.1))
 
--- One step more is laid.
-pub laid_more_down : (g : Darts) (f0 : Forest) {f1 f2 : Forest} (a i : ℕ) {x y d e : ℕ} → f1 ≡ laid_down g f0 a i → f2
-    ≡ ringed f1 (set_at f1.nest.after y x) (set_at f1.nest.joint y e) → x ≡ way_of g f0 a i → y ≡ way_of g f0 a (suc i)
-    → e ≡ g.twin d → d ≡ dart_or (rise_of f0 (way_of g f0 a i)) → f2 ≡ laid_down g f0 a (suc i)
-laid_more_down g f0 a i e1 e2 x_is y_is e_is d_is = e2 ∙ rw (e1, y_is, x_is, e_is, d_is)
-
-pub laid_more_up : (g : Darts) (f0 : Forest) {f1 f2 : Forest} (c i : ℕ) {x y d : ℕ} → f1 ≡ laid_up g f0 c i → f2
-    ≡ ringed f1 (set_at f1.nest.after x y) (set_at f1.nest.joint x d) → x ≡ way_of g f0 c i → y ≡ way_of g f0 c (suc i)
-    → d ≡ dart_or (rise_of f0 (way_of g f0 c i)) → f2 ≡ laid_up g f0 c (suc i)
-laid_more_up g f0 c i e1 e2 x_is y_is d_is = e2 ∙ rw (e1, x_is, y_is, d_is)
+-- One step more is laid, upwards or downwards.
+pub laid_more : (f0 : Forest) {f1 f2 : Forest} (place value dart : ℕ → ℕ) (i : ℕ) {p v e : ℕ}
+    → f1 ≡ ringed f0 (writes f0.nest.after place value i) (writes f0.nest.joint place dart i)
+    → f2 ≡ ringed f1 (set_at f1.nest.after p v) (set_at f1.nest.joint p e) → p ≡ place i → v ≡ value i → e ≡ dart i
+    → f2 ≡ ringed f0 (writes f0.nest.after place value (suc i)) (writes f0.nest.joint place dart (suc i))
+laid_more f0 place value dart i e1 e2 p_is v_is e_is = e2 ∙ rw (e1, p_is, v_is, e_is)
 
 -- The forest sees what is laid.
 pub seen_lay : {t : ForestTables} {hid : HiddenTables} → AreTied t hid → (x next dart : ℕ) → x < length t.up
@@ -215,15 +206,8 @@ pub record IsPlaced (t : ForestTables) : Type 0 where
   pub live : (x : ℕ) → up_at t.up x ≢ x → length t.hand ≤ x → get_or t.parts x 0 ≢ 0
 
 pub placed : {t : ForestTables} {hid : HiddenTables} → AreTied t hid → IsPlaced t
-placed {t} tied = grind (
-  arith,
-  laminar tied,
-  tied.nest.around,
-  tied.nest.ups,
-  tied.nest.idle,
-  get_or_past,
-  get_or_default_zero t.up,
-)
+placed {t} tied = let known = laminar tied in
+    grind (arith, tied.nest.around, tied.nest.ups, tied.nest.idle, get_or_past, get_or_default_zero t.up)
 
 -- The room of a forest is as large as what it comes to.
 module _ {t : ForestTables} (it : IsPlaced t) {g : WeightedGraph} (valid : IsSoundFor g t) {n : ℕ} {round : Round}

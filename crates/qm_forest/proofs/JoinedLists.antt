@@ -16,10 +16,7 @@ use Rattle.{forest_laws.specs.Walks.writes, forest_laws.specs.Walks.listed, def_
 -- A sum over fewer places is no greater.
 pub ring_sum_below : (next f : ℕ → ℕ) (from k n : ℕ) → k ≤ n → ring_sum next f from k ≤ ring_sum next f from n
 ring_sum_below next f from k zero l = (let z : k ≡ 0 = omega arith in omega (arith, ap (ring_sum next f from) z))
-ring_sum_below next f from k (suc n) l = elim (cases_eq k (suc n)) [
-  | inl e ↦ omega (arith, ap (ring_sum next f from) e)
-  | inr ne ↦ omega (arith, ring_sum_below next f from k n (omega arith))
-]
+ring_sum_below next f from k (suc n) l = grind (arith, cases_eq k (suc n), ring_sum_below next f from k n)
 
 -- Each of two or more numbers along a row, none of them 0, is less than their sum.
 pub ring_sum_above : (next f : ℕ → ℕ) (from many : ℕ) → 2 ≤ many → ((j : ℕ) → j < many → 1 ≤ f (walk next from j))
@@ -119,16 +116,9 @@ listed_agrees next other from many walks v (suc k) l =
 pub list_agrees : {n : ℕ} {next : ℕ → ℕ} (other : ℕ → ℕ) {from to many : ℕ} {set : ℕ → Bool}
     → IsListed n next from to many set → ((k : ℕ) → suc k < many → other (walk next from k) ≡ next (walk next from k))
     → IsListed n other from to many set
-list_agrees {n} {next} other {from} {many} is same = record {
-  all = λ v l. listed_agrees next other from many walks v many (omega arith) ∙ is.all v l;
-  low = λ k l. rw (walks k l) (is.low k l);
-  distinct = λ i j lij lj e. is.distinct i j lij lj (sym (walks i (omega arith)) ∙ (e ∙ walks j lj));
-  ends = λ k e. walks k (omega arith) ∙ is.ends k e;
-  some = is.some;
-}
-  where
-    walks : (k : ℕ) → k < many → walk other from k ≡ walk next from k
-    walks = walk_agrees next other from many same
+list_agrees {n} {next} other {from} {many} is same =
+    let walks = walk_agrees next other from many same in
+    search (rules, listed_agrees next other from many walks, walks)
 
 -- The same list of the same set under another name.
 pub list_renamed : {n : ℕ} {next : ℕ → ℕ} {from to many : ℕ} {set : ℕ → Bool} (other : ℕ → Bool)

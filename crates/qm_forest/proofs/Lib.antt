@@ -15,6 +15,6 @@ pub mod RingRounds
 pub mod Waitings
 pub mod Chosens
 pub mod MateRounds
+pub mod Inners
 pub mod Openings
-pub mod Routes
 pub mod Outlined

@@ -1,24 +1,23 @@
 -- What an edge's kind says of its dart that begins in an outer blossom.
-use Rattle.std.proofs.Common.{rules, ◌≡◌, ◌≢◌, ℕ, ◌+◌, ◌*◌, ◌<◌, Bool, true, false, cond, eqb, length, pos}
-use Rattle.std.proofs.Common.{Option, is_some, ◌⊎◌, refl, sym, ◌∙◌, ap, subst, inl, inr, arith, suc, ◌-◌, ◌/◌, ◌%◌, ◌≤◌}
-use Rattle.std.proofs.Common.{List, get_or, Some, None}
+use Rattle.std.proofs.Common.{rules, ◌≡◌, ◌≢◌, ℕ, ◌+◌, ◌*◌, ◌<◌, Bool, true, false, cond, eqb, length, pos, Option}
+use Rattle.std.proofs.Common.{is_some, ◌⊎◌, refl, sym, ◌∙◌, ap, subst, inl, inr, arith, suc, ◌-◌, ◌/◌, ◌%◌, ◌≤◌, List}
+use Rattle.std.proofs.Common.{get_or, Some, None}
 use Rattle.std.proofs.lemmas.Bool.{cases_Bool, cond-true, cond-false, eq-eqb, cases_eq, cases_lt, ne_eqb}
 use Rattle.std.{proofs.lemmas.Int.ints, proofs.Math.ListN.set, proofs.lemmas.Option.none-some, specs.Prelude.int_lt}
 use Rattle.def_matching.specs.Matching.{IsSmallGraph, WeightedGraph, edge_at}
 use Rattle.def_forest.specs.Forests.{Forest, weight_between, IsTight, bool_number, splits}
 use Rattle.def_forest.specs.Tables.{edge_kind, kind_by, slack_of, outer_dart, dart_by, ForestTables, forest_of, up_at}
 use Rattle.def_forest.specs.declared.kinds.EdgeKind.TheVariants.{Loose, Augment, Grow, Shrink}
-use Rattle.def_forest.specs.{Darts.darts_of, Darts.far, Darts.AreDarts, Darts.other_dart, Valid.IsFeasible}
-use Rattle.def_forest.specs.{Valid.IsMate, declared.kinds.Label.Label, declared.kinds.Label.TheVariants.Outer}
+use Rattle.def_forest.specs.{Darts.darts_of, Darts.far, Darts.other_dart, Valid.IsFeasible, Valid.IsMate}
+use Rattle.def_forest.specs.{declared.kinds.Label.Label, declared.kinds.Label.TheVariants.Outer}
 use Rattle.def_forest.specs.{declared.kinds.Label.TheVariants.Outside, declared.kinds.EdgeKind.EdgeKind, Ways.Reaches}
 use Rattle.forest_laws.proofs.Bounds.{are_darts, near_odd, twin_even, dart_near, dart_far, dart_cost, twin_odd}
 use Rattle.forest_laws.proofs.{Grows.tight_twin, Grows.far_twin, Grows.true_false, Grows.some_is, Grows.option_cases}
-use Rattle.forest_laws.proofs.{Walks.walk_fixed}
 use Rattle.sum_laws.proofs.{Sums.count_below_none, Sums.count_below_one, Sums.count_below_same, Tests.same_test}
 use Rattle.qm_forest.specs.Rounds.{IsSoundFor, IsLaminar, IsPairing, IsRound, entered, far_at, is_dart, matched_by}
 use Rattle.qm_forest.specs.Rounds.{matches, near_at, waits_but, within}
 use Rattle.qm_forest.proofs.Withins.{rising, in_line, in_where, through, where_in}
-use Rattle.qm_forest.proofs.RingRounds.{paired_round}
+use Rattle.{qm_forest.proofs.RingRounds.paired_round, forest_laws.proofs.Walks.walk_fixed}
 
 module _ {g : WeightedGraph} (is : IsSmallGraph g) {f : Forest} (feasible : IsFeasible (darts_of g) f) (e : ℕ)
     (low : e < length g.edges) where
@@ -95,9 +94,6 @@ module _ {t : ForestTables} (known : IsLaminar t) {g : WeightedGraph} (valid : I
   abbrev pub f : Forest
   f = forest_of t
 
-  abbrev are : AreDarts (darts_of g)
-  are = are_darts valid.small.lawful
-
   -- The ends of an edge.
   abbrev pub from : ℕ → ℕ
   from e = near_at t (2 * e)
@@ -142,7 +138,6 @@ module _ {t : ForestTables} (known : IsLaminar t) {g : WeightedGraph} (valid : I
 
   -- What an edge that matches says.
   pub record IsMateEdge (e : ℕ) : Type 0 where
-    pub low : 2 * e < 2 * length g.edges
     pub near_low : from e < length t.hand
     pub far_low : to e < length t.hand
     pub mate : f.mate (out (from e)) ≡ Some (2 * e)
@@ -154,14 +149,13 @@ module _ {t : ForestTables} (known : IsLaminar t) {g : WeightedGraph} (valid : I
   twin_is e = twin_even (2 * e) (omega arith)
 
   pub vertex_low : (d : ℕ) → d < 2 * length g.edges → near_at t d < length t.hand
-  vertex_low d l = rw (valid.vertices, valid.ends d l) (are.near_low d l)
+  vertex_low d l = rw (valid.vertices, valid.ends d l) ((are_darts valid.small.lawful).near_low d l)
 
   used_at : (u : ℕ) → u < length t.hand → length t.hand ≤ f.out u → get_or t.parts (f.out u) 0 ≢ 0
   used_at u lu high none = true_false (own u lu) (search rules)
 
   pub mate_edge : (e : ℕ) → f.mate (out (from e)) ≡ Some (2 * e) → IsMateEdge e
   mate_edge e mate = record {
-    low = m.tight.low;
     near_low = nl;
     far_low = fl;
     mate = mate;
@@ -198,7 +192,7 @@ module _ {t : ForestTables} (known : IsLaminar t) {g : WeightedGraph} (valid : I
       far_same = ap (near_at t) (twin_is e)
 
       far_is : far (darts_of g) (2 * e) ≡ to e
-      far_is = sym (valid.ends (other_dart (2 * e)) (are.twin_low (2 * e) m.tight.low)) ∙ far_same
+      far_is = sym (valid.ends _ ((are_darts valid.small.lawful).twin_low (2 * e) m.tight.low)) ∙ far_same
 
       apart : out (from e) ≢ out (to e)
       apart s = m.other (ap f.out far_is ∙ sym s)
@@ -242,7 +236,8 @@ module _ {t : ForestTables} (known : IsLaminar t) {g : WeightedGraph} (valid : I
         | inr nz ↦ (let s : 2 * e ≡ d - 1 = omega (arith, nz) in
             let up : 2 * e + 1 ≡ d = omega (arith, nz) in
             let twin = s ∙ sym (twin_odd d nz) in
-            let far_is = ap (near_at t) twin ∙ valid.ends (other_dart d) (are.twin_low d m.tight.low) in (
+            let low = (are_darts valid.small.lawful).twin_low d m.tight.low in
+            let far_is = ap (near_at t) twin ∙ valid.ends (other_dart d) low in (
               value e (dart_is _ (ap (λ v. f.mate (f.out v)) far_is ∙ (m.back ∙ ap (λ (k : ℕ). Some k) (sym twin))))
                   (inr (sym (ap (λ k. f.out (near_at t k)) up ∙ near_is))),
               omega (arith, m.tight.low),
@@ -293,12 +288,14 @@ module _ {t : ForestTables} (known : IsLaminar t) {g : WeightedGraph} (valid : I
       let step : (b : ℕ) → matched_by t j b ≡ matched_by t e b + (bool_number (within t b (out (from e)))
       + bool_number (within t b (out (to e)))) = λ b. (let o : j ≡ suc e = omega arith in
       grind (arith, o, dart_is _ mate)) in
-      rw (marks_is, left_is) (paired_round known valid _ _ _ _ _ _ _ size_marks size_left (record {
-        each = λ b l. omega (arith, round.each b l, step b);
-        entry = round.entry;
-        once = λ v l. due_low v j l;
-        tight = round.tight;
-      }) (mate_edge e mate).pairing)
+      rw (marks_is, left_is) (paired_round known valid _ _ _ _ _ _ _ size_marks size_left (search (
+        rules,
+        step,
+        round.each,
+        round.entry,
+        round.tight,
+        due_low,
+      )) (mate_edge e mate).pairing)
 
   pub edge_same : {marks : List Bool} {left : List (Option ℕ)} (e j : ℕ) → j ≡ e + 1 → f.mate (out (from e))
       ≢ Some (2 * e) → IsRound t marks left (λ b. 0) (matched_by t e) → IsRound t marks left (λ b. 0) (matched_by t j)

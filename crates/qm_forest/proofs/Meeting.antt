@@ -1,9 +1,9 @@
 -- Two climbers in a valid forest: each turn keeps what they know, and brings them nearer.
-use Rattle.std.proofs.Common.{rules, ◌≡◌, ◌≢◌, ℕ, suc, ◌+◌, ◌-◌, ◌<◌, ◌≤◌, ◌^◌, length, get_or, ℤ, pos, ◌+ℤ◌, ◌⊎◌, refl}
-use Rattle.std.proofs.Common.{sym, ◌∙◌, ap, inl, inr, arith, ◌≤ℤ◌, Some, None, subst}
+use Rattle.std.proofs.Common.{rules, ◌≡◌, ◌≢◌, ℕ, suc, ◌+◌, ◌-◌, ◌*◌, ◌<◌, ◌≤◌, ◌^◌, length, get_or, ℤ, pos, ◌+ℤ◌, ◌⊎◌}
+use Rattle.std.proofs.Common.{refl, sym, ◌∙◌, ap, inl, inr, arith, ◌≤ℤ◌, Some, None, subst}
 use Rattle.def_forest.specs.Tables.{up_at, ForestTables, forest_of, label_at, IsValidFor, out_of}
 use Rattle.def_forest.specs.{declared.kinds.Label.Label, Darts.darts_of, Valid.IsFeasible, Valid.IsValid}
-use Rattle.def_forest.specs.Forests.{IsOutermost, weight_between, Forest, dual_sum_of}
+use Rattle.def_forest.specs.Forests.{weight_between, Forest, dual_sum_of}
 use Rattle.def_forest.specs.Steps.{weight_change, shifted, rooted}
 use Rattle.forest_laws.proofs.Grows.{label_cases, potential_shifted, rooted_valid}
 use Rattle.forest_laws.proofs.{Bounds.are_darts, Shifts.sum_rises, Shifts.shift_valid}
@@ -32,14 +32,14 @@ module _ {g : WeightedGraph} {t : ForestTables} (valid : IsValidFor g t) (climb 
 
   -- The weight of a blossom that is not outermost is as it is kept.
   base_is : (x : ℕ) → up x ≢ x → get_or t.base x (pos 0) ≡ (forest_of t).weight x
-  base_is x inner = elim (label_cases (label_at t.label x)) [
-    | inl off ↦ omega (arith, ints, ap (λ (l : Label). weight_change l t.delta) off)
-    | inr named ↦ (let w : IsOutermost g.n (forest_of t) x = valid.valid.outermost.named x named in
-        absurd (inner (ap (up_at t.up) (sym w.2) ∙ (valid.valid.outermost.tops w.0 w.1 ∙ w.2))))
-  ]
+  base_is x inner = let named = valid.valid.outermost.named x in
+      grind (arith, ints, label_cases (label_at t.label x), valid.valid.outermost.tops)
 
   abbrev passing : ℕ → ℕ → ℤ
   passing x y = apart (length t.hand) up (forest_of t).weight (length t.up) x y
+
+  passed_small : (x y : ℕ) → unsigned_abs (passing x y) ≤ length t.up * 2 ^ 62
+  passed_small x y = apart_small (length t.hand) up (forest_of t).weight (length t.up) x y small
 
   -- One is within where one is.
   within_up : (b x : ℕ) → IsWithin t b x → IsWithin t b (up x)
@@ -74,13 +74,7 @@ module _ {g : WeightedGraph} {t : ForestTables} (valid : IsValidFor g t) (climb 
         let sum : load2 +ℤ passing x2 high ≡ passing u v =
         omega (arith, ints, ap (λ k. passing k high) x2_is, load_is, w.0.sum, base_is _ inner) in
         let first : IsWithin t top x2 = rw x2_is (within_up _ _ w.0.first) in
-        let small : unsigned_abs load2 ≤ 2 ^ 90 = omega (
-          arith,
-          ints,
-          sum,
-          apart_small (length t.hand) up (forest_of t).weight (length t.up) x2 high small,
-          apart_small (length t.hand) up (forest_of t).weight (length t.up) u v small,
-        ) in
+        let small : unsigned_abs load2 ≤ 2 ^ 90 = omega (arith, ints, sum, passed_small x2 high, passed_small u v) in
         assumption (x2_low w.0.low_x)
 
     -- And they come nearer.
@@ -101,8 +95,9 @@ met_load {t} meet e = search (rules, apart_met)
 -- What a shift does to the tables.
 
 -- A shift after another.
-change_sum : (l : Label) (d s : ℤ) → weight_change l (d +ℤ s) ≡ weight_change l d +ℤ weight_change l s
-change_sum l d s = grind (arith, ints)
+change_sum : (l : Label) (d : ℤ) {e : ℤ} (s : ℤ) → e ≡ d +ℤ s
+    → weight_change l e ≡ weight_change l d +ℤ weight_change l s
+change_sum l d s e_is = grind (arith, ints)
 
 change_low : (l : Label) (s : ℤ) → pos 0 ≤ℤ s → pos (unsigned_abs (weight_change l s)) ≤ℤ s
 change_low l s h = grind (arith, ints)
@@ -112,8 +107,7 @@ pub seen_shift : (t : ForestTables) (s : ℤ) {d : ℤ} → d ≡ t.delta +ℤ s
     ≡ shifted (forest_of t) s
 seen_shift t s {d} e i =
     let weight : (b : ℕ) → (forest_of (record t { delta = d })).weight b ≡ (forest_of t).weight b +ℤ weight_change
-    (label_at t.label b) s = λ b. let h : weight_change (label_at t.label b) d ≡ weight_change (label_at t.label b)
-    t.delta +ℤ weight_change (label_at t.label b) s = search (rules, change_sum) in omega (arith, ints, h) in
+    (label_at t.label b) s = λ b. omega (arith, ints, change_sum (label_at t.label b) t.delta s e) in
     record (forest_of t) { weight = λ b. weight b i }
 
 -- Where no tree stands a shift changes nothing.
@@ -135,9 +129,7 @@ module _ {t : ForestTables} {hid : HiddenTables} (tied : AreTied t hid) {g : Wei
 
   added_is : (v : ℕ) → added t.hand t.top hid.off t.label d v ≡ added t.hand t.top hid.off t.label t.delta v +ℤ
       weight_change (label_at t.label (out_of t.hand t.top v)) s
-  added_is v = let h : weight_change (label_at t.label (out_of t.hand t.top v)) d
-      ≡ weight_change (label_at t.label (out_of t.hand t.top v)) t.delta +ℤ weight_change
-      (label_at t.label (out_of t.hand t.top v)) s = search (rules, change_sum) in omega (arith, ints, h)
+  added_is v = omega (arith, ints, change_sum (label_at t.label (out_of t.hand t.top v)) t.delta s d_is)
 
   -- The tie after a shift.
   pub tied_shift : AreTied (record t { delta = d }) hid
@@ -152,15 +144,12 @@ module _ {t : ForestTables} {hid : HiddenTables} (tied : AreTied t hid) {g : Wei
       moved = λ v lv. (let low = change_low (label_at t.label (out_of t.hand t.top v)) s high in
           omega (arith, ints, sum_is, added_is v, tied.numbers.moved v lv));
       risen = search (rules, sum_is);
-      still = λ none. absurd (clash (sym root ∙ none));
+      still = λ none. absurd (cc (sym root ∙ none));
     };
     trail = tied.trail;
     pool = tied.pool;
   }
     where
-      clash : Some r ≡ None → ⊥
-      clash e = cc
-
       potentials : (v : ℕ) → v < length t.hand → potential (forest_of (record t { delta = d })) v
           ≡ told hid.q t.hand t.top hid.off t.label d v
       potentials v lv =

@@ -4,10 +4,10 @@ use Rattle.std.proofs.Common.{is_some, sym, ◌∙◌, ap, arith}
 use Rattle.def_matching.specs.Matching.{IsSmallGraph, WeightedGraph}
 use Rattle.def_forest.specs.{Darts.Darts, Darts.AreDarts, Darts.darts_of, Darts.far, Forests.Forest, Forests.set_at}
 use Rattle.def_forest.specs.{Steps.grown, Steps.with_mates, Steps.IsAugmented, Tables.ForestTables, Tables.forest_of}
-use Rattle.def_forest.specs.{Tables.IsValidFor, Valid.IsValid}
-use Rattle.def_forest.specs.{declared.kinds.Label.TheVariants.Outside, Ways.Reaches, Ways.steps, Ways.parent_of}
-use Rattle.forest_laws.proofs.{Grows.tree_of, Grows.outer_mate, Grows.grown_valid, Grows.outer_named, Grows.some_is}
-use Rattle.forest_laws.proofs.{Bounds.are_darts, Levels.fewer_steps, WayLaws.begin, WayLaws.turn}
+use Rattle.def_forest.specs.{Tables.IsValidFor, Valid.IsValid, declared.kinds.Label.TheVariants.Outside, Ways.Reaches}
+use Rattle.def_forest.specs.{Ways.steps, Ways.parent_of}
+use Rattle.forest_laws.proofs.{Grows.named_low, Grows.tree_of, Grows.outer_mate, Grows.grown_valid, Grows.outer_named}
+use Rattle.forest_laws.proofs.{Grows.some_is, Bounds.are_darts, Levels.fewer_steps, WayLaws.begin, WayLaws.turn}
 use Rattle.forest_laws.proofs.{WayLaws.end_valid, WayLaws.end_augmented}
 use Rattle.qm_forest.specs.Ties.{fixed_of, IsOnWay, HasSameNest, mated, remated, labelled}
 
@@ -39,13 +39,6 @@ valid_grown {t} u {g} is valid {d} m reach mate seen hand root fixed =
 pub remated_more : (f0 : Forest) {f1 f2 : Forest} (mate : ℕ → Option ℕ) (b : ℕ) (m : Option ℕ) → f1 ≡ remated f0 mate
     → f2 ≡ mated f1 b m → f2 ≡ remated f0 (set_at mate b m)
 remated_more f0 mate b m e1 e2 = e2 ∙ ap (λ (f : Forest). mated f b m) e1
-
--- The outermost blossoms and the links are those of the first forest.
-pub out_same : (f0 : Forest) {f1 : Forest} (mate : ℕ → Option ℕ) (v : ℕ) → f1 ≡ remated f0 mate → f1.out v ≡ f0.out v
-out_same f0 mate v e = ap (λ (f : Forest). f.out v) e
-
-pub link_same : (f0 : Forest) {f1 : Forest} (mate : ℕ → Option ℕ) (b : ℕ) → f1 ≡ remated f0 mate → f1.link b ≡ f0.link b
-link_same f0 mate b e = ap (λ (f : Forest). f.link b) e
 
 -- The way begins.
 pub way_begins : {g : WeightedGraph} {t : ForestTables} → IsSmallGraph g → IsValidFor g t → {start : ℕ}
@@ -109,8 +102,7 @@ module _ {g : WeightedGraph} {t : ForestTables} {start : ℕ} {mate : ℕ → Op
 
   -- The blossom at hand is outermost, and its number low.
   pub way_low : a < length t.up
-  way_low = let w = way.valid.valid.outermost.named a (outer_named way.almost.outer) in
-      (rw w.2 at (way.valid.valid.outermost.out_low w.0 w.1))
+  way_low = named_low are way.valid.valid (outer_named way.almost.outer)
 
   -- Darts met on the way are darts of the graph.
   pub old_low : (old : ℕ) → mate a ≡ Some old → old < 2 * length g.edges
@@ -144,11 +136,6 @@ near_in {g} is valid d {v} low v_is = rw (valid.vertices, v_is) ((are_darts is.l
 -- The same blossoms, over two changes.
 pub same_nest : {a b c : ForestTables} → HasSameNest a b → HasSameNest b c → HasSameNest a c
 same_nest p q = grind arith
-
--- What is seen, said of the mates at hand.
-pub seen_own : (t0 t1 : ForestTables) (mate : ℕ → Option ℕ) → forest_of t1 ≡ remated (forest_of t0) mate
-    → forest_of t1 ≡ remated (forest_of t0) (forest_of t1).mate
-seen_own t0 t1 mate e = e ∙ ap (remated (forest_of t0)) (sym (ap (λ (f : Forest). f.mate) e))
 
 -- The outermost blossom of one more vertex of a list is put outside.
 pub one_more_outside : (f1 : Forest) {f2 : Forest} (trail : List ℕ) (k : ℕ) {v : ℕ} → v ≡ get_or trail k 0

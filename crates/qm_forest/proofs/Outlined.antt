@@ -1,6 +1,6 @@
 -- A forest that is written down as a dual: the sets hold what they held, and the dual says yes.
 use Rattle.std.proofs.Common.{rules, ◌≡◌, ◌≢◌, ℕ, zero, suc, ◌+◌, ◌-◌, ◌*◌, ◌<◌, ◌≤◌, Bool, true, false, cond, eqb}
-use Rattle.std.proofs.Common.{subst, inl, inr, arith, ◌||◌, List, length, get_or, pos, ◌+ℤ◌, ◌*ℤ◌, ◌≤ℤ◌, ◌⊎◌, refl, sym}
+use Rattle.std.proofs.Common.{inl, inr, arith, ◌||◌, List, length, get_or, pos, ◌+ℤ◌, ◌*ℤ◌, ◌≤ℤ◌, ◌⊎◌, refl, sym}
 use Rattle.std.proofs.{Common.◌∙◌, Common.ap, lemmas.Bool.and_from, lemmas.Bool.ne_eqb, Math.Bool.or-false}
 use Rattle.std.proofs.lemmas.Bool.{cases_eq, cases_lt, cond-false, cond-true, eq-eqb, eqb-true, le-leb, le-ltb, lt-ltb}
 use Rattle.sum_laws.proofs.Sums.{count_below_same, total_below_one, total_below_same, total_below_sum}
@@ -14,7 +14,7 @@ use Rattle.qm_forest.proofs.Withins.{alone, rising, IsRising, in_where}
 use Rattle.qm_forest.proofs.Waitings.{place_of, set_low, sized, sum_parts}
 use Rattle.{std.proofs.lemmas.Int.ints, def_math.specs.Sums.total, def_math.specs.Sums.total_below}
 use Rattle.{sum_laws.proofs.Tests.same_test, def_matching.specs.Matching.WeightedGraph}
-use Rattle.{def_matching.specs.Matching.edge_at, def_forest.specs.Darts.AreDarts, def_forest.specs.Darts.darts_of}
+use Rattle.{def_matching.specs.Matching.edge_at, def_forest.specs.Darts.darts_of}
 use Rattle.{def_forest.specs.Written.IsDualOf, qm_forest.specs.Rounds.IsLaminar, qm_forest.specs.Rounds.IsSoundFor}
 use Rattle.{qm_forest.proofs.Fresh.climbs_self, qm_forest.proofs.Enclosed.climbs_place, std.specs.Prelude.nat_lt}
 use Rattle.{std.specs.List.list_any, qm_dual.proofs.Tallies.total_entries}
@@ -24,7 +24,7 @@ use Rattle.def_matching.specs.Dual.{load as dual_load, set_size, sets_from, y_at
 entry_lawful : (n m i entry : ℕ) → (entry ≡ 0) ⊎ ((i + 1 < n + entry) × (entry ≤ m)) → is_up n m i entry ≡ true
 entry_lawful n m i entry h = grind arith
 
-module _ (t : ForestTables) (known : IsLaminar t) (sets : List (ℕ × ℕ)) (d : DualLists) (is : IsOutline t sets d) where
+module _ {t : ForestTables} (known : IsLaminar t) {sets : List (ℕ × ℕ)} {d : DualLists} (is : IsOutline t sets d) where
   abbrev f : Forest
   f = forest_of t
 
@@ -67,8 +67,8 @@ module _ (t : ForestTables) (known : IsLaminar t) (sets : List (ℕ × ℕ)) (d 
   later j k lj lk less = search rules
 
   inner_later : (j x : ℕ) → j < m → set_in sets j ≡ x → (ne : up x ≢ x) → j < (around_place x ne).0
-  inner_later j x l at ne = later j _ l (around_place x ne).1 (subst (λ b. get_or t.rank b 0
-      < get_or t.rank (set_in sets (around_place x ne).0) 0) (sym at) (rw (around_place x ne).2 (known.rises x ne)))
+  inner_later j x l at ne =
+      later j _ l (around_place x ne).1 (rw (at, (around_place x ne).2) (known.rises x ne))
 
   names : IsRising m up name
   names = record {
@@ -134,9 +134,6 @@ module _ (t : ForestTables) (known : IsLaminar t) (sets : List (ℕ × ℕ)) (d 
   y_is v l = is.y.each v l
 
   module _ {g : WeightedGraph} (valid : IsSoundFor g t) where
-    abbrev are : AreDarts (darts_of g)
-    are = are_darts valid.small.lawful
-
     high_in : (b : ℕ) → n ≤ b → g.n ≤ b
     high_in b h = rw valid.vertices at h
 
@@ -152,11 +149,8 @@ module _ (t : ForestTables) (known : IsLaminar t) (sets : List (ℕ × ℕ)) (d 
     -- The sum is that of the weights.
     sum_is : dual_sum d ≡ dual_sum_of f
     sum_is =
-        let ys : total (λ y. y) d.y ≡ total_below f.weight n = cc (
-          total_entries _ (pos 0) _,
-          is.y.size,
-          total_below_same _ _ n (λ v l. is.y.each v l),
-        ) in
+        let ys : total (λ y. y) d.y ≡ total_below f.weight n = total_entries _ _ d.y
+        ∙ (ap (total_below (λ v. get_or d.y v (pos 0))) is.y.size ∙ total_below_same _ _ n (λ v l. is.y.each v l)) in
         let zs : total (λ z. z) d.z ≡ total_below (λ k. f.weight (set_in sets k)) m = total_entries _ _ d.z
         ∙ (ap (total_below (λ k. get_or d.z k (pos 0))) sets_many ∙ total_below_same _ _ m (λ k l. is.z.each k l)) in
         omega (arith, ints, ys, zs, sum_parts is.order _ known.vertices weights_high weights_none)
@@ -177,9 +171,8 @@ module _ (t : ForestTables) (known : IsLaminar t) (sets : List (ℕ × ℕ)) (d 
 
     nested : AreNestedSets g.n (length d.z) d.up
     nested = record {
-      entries = is.entries.size ∙ (ap (λ x. x + m) valid.vertices ∙ ap (λ x. g.n + x) (sym sets_many));
-      later = λ i l. subst (λ x. is_up x (length d.z) i (get_or d.up i 0) ≡ true) valid.vertices (subst (λ x. is_up n x
-          i (get_or d.up i 0) ≡ true) (sym sets_many) (by_place i (omega (arith, l, valid.vertices, sets_many))));
+      entries = omega (arith, is.entries.size, valid.vertices, sets_many);
+      later = λ i l. rw (← valid.vertices, sets_many) (by_place i (omega (arith, l, valid.vertices, sets_many)));
     }
       where
         at : (i x : ℕ) → get_or d.up i 0 ≡ entry x → ((ne : up x ≢ x) → i < n + (around_place x ne).0)
@@ -207,6 +200,7 @@ module _ (t : ForestTables) (known : IsLaminar t) (sets : List (ℕ × ℕ)) (d 
     size_odd k l =
         let high = high_in (set_in sets k) (sized is.order k l).high in
         let live = (sized is.order k l).live in
+        let are = are_darts valid.small.lawful in
         ap is_odd_size (size_is k l) ∙ and_from _ _ (eq-eqb _ _ (odd_blossom are valid.valid.nested (set_in sets k)
         (inr (high, live)))) (le-leb 3 _ (large_set are valid.valid.nested (set_in sets k) high live))
 
@@ -234,11 +228,9 @@ module _ (t : ForestTables) (known : IsLaminar t) (sets : List (ℕ × ℕ)) (d 
         let held : (k w : ℕ) → k < m → w < n → holds g.n d k w ≡ f.holds (set_in sets k) w =
         λ k w lk lw. ap (λ x. holds x d k w) (sym valid.vertices) ∙ holds_is k lk w lw in
         let load = λ (k : ℕ). cond (crosses (holds g.n d k) (edge_at g e)) (z_at d k) (pos 0) in
-        let sets_load : total_below load (length d.z) ≡ total_below (λ k. added (set_in sets k)) m = cc (
-          sets_many,
-          total_below_same load (λ k. added (set_in sets k)) m
-              (λ k lk. rw (held k u lk u_low, held k v lk v_low, z_is k lk)),
-        ) in
+        let sets_load : total_below load (length d.z) ≡ total_below (λ k. added (set_in sets k)) m =
+        ap (total_below load) sets_many ∙ total_below_same load (λ k. added (set_in sets k)) m
+        (λ k lk. rw (held k u lk u_low, held k v lk v_low, z_is k lk)) in
         let parts = sum_parts is.order added known.vertices (λ b h lb. grind (arith, ints, weights_high b h lb))
         (λ b h dead. rw (weights_none b h dead) (by_none (splits (f.holds b) u v))) in
         let ends = ends_load u v u_low v_low (valid.small.lawful.apart e l) in
@@ -247,10 +239,8 @@ module _ (t : ForestTables) (known : IsLaminar t) (sets : List (ℕ × ℕ)) (d 
     edge_loaded : (e : ℕ) → e < length g.edges → dual_load g.n d (edge_at g e) ≤ℤ (pos 2 *ℤ (edge_at g e).cost)
     edge_loaded e l =
         let low : 2 * e < (darts_of g).count = omega (arith, l) in
-        let ends : weight_between f ((darts_of g).near (2 * e)) ((darts_of g).near ((darts_of g).twin (2 * e)))
-        ≡ weight_between f (edge_at g e).u (edge_at g e).v = ap (λ x. weight_between f x ((darts_of g).near
-        ((darts_of g).twin (2 * e)))) (dart_near g e) ∙ ap (weight_between f (edge_at g e).u) (dart_far g e) in
-        omega (arith, ints, valid.valid.feasible.darts (2 * e) low, ends, dart_cost g e, load_is e l)
+        let load = rw (dart_near g e, dart_far g e) at (valid.valid.feasible.darts (2 * e) low) in
+        omega (arith, ints, dart_cost g e, load_is e l)
 
     -- The dual says yes.
     pub says_yes : SaysYes g d

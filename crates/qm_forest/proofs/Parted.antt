@@ -2,7 +2,7 @@
 -- forest after all of them.
 use Rattle.std.proofs.Common.{rules, ◌≡◌, ◌≢◌, ℕ, zero, suc, ◌+◌, ◌-◌, ◌<◌, ◌≤◌, Bool, true, false, cond, List, length}
 use Rattle.std.proofs.Common.{get_or, ℤ, pos, Option, Some, None, ◌⊎◌, refl, sym, ◌∙◌, ap, inl, inr, arith, length-set}
-use Rattle.std.proofs.{Common.get_or-set_same, Common.get_or-set_other, Math.ListN.set}
+use Rattle.std.proofs.{Common.get_or-set_same, Common.get_or-set_other, Math.ListN.set, lemmas.List.get_or_default}
 use Rattle.std.proofs.lemmas.Bool.{cases_eq, cases_Bool, false_from_ne_true}
 use Rattle.def_forest.specs.Tables.{ForestTables, forest_of, climbs, label_at, out_of, up_at}
 use Rattle.def_forest.specs.{Forests.Forest, Forests.walk, declared.kinds.Label.TheVariants.Outside}
@@ -14,7 +14,7 @@ use Rattle.qm_forest.specs.Ties.{AreTied, HiddenTables, HasSizes, HasNumbers, Is
 use Rattle.qm_forest.proofs.Enclosed.{Enclosing, climb_enclosed, holds_same, not_new, came_past, climbs_place}
 use Rattle.qm_forest.proofs.Enclosed.{leader_out, rank_few, rank_some}
 use Rattle.qm_forest.proofs.{Gatherings.list_read, Shrinkings.seen_in, Shrinkings.hidden_in, Waitings.pool_changed}
-use Rattle.qm_forest.proofs.TiedWrites.{numbers_kept, tied_as, trail_kept, read_nat, entry_set}
+use Rattle.qm_forest.proofs.TiedWrites.{numbers_kept, tied_as, trail_kept, entry_set}
 use Rattle.qm_forest.proofs.JoinedLists.{writes_has, writes_self, list_renamed}
 use Rattle.qm_forest.proofs.Fresh.{comes_out, fixed_top, rank_low}
 use Rattle.{forest_laws.specs.Walks.listed, std.specs.Prelude.slice_get, qm_pool.specs.declared.pool.Node.Node}
@@ -215,13 +215,11 @@ module _ {s : Inside} {r2 : Rings} {b : ℕ} (it : Opened s r2 b) where
   })
 
   -- The set's vertices are handed over to its parts, and its number is given back.
-  pub record Parting (h2 : Handles) (pool2 : List (Option Node)) : Type 0 where
-    pub laid : HasHandedRow s.handles h2 s.lists r2.after.items (get_or t.head b 0) many b
-    pub gave : (id : ℕ) × (b ≡ n + id) × (pool2 ≡ set s.pool id None)
-
-  module _ {h2 : Handles} {pool2 : List (Option Node)} (parting : Parting h2 pool2) where
+  module _ {h2 : Handles} {pool2 : List (Option Node)}
+      (laid : HasHandedRow s.handles h2 s.lists r2.after.items (get_or t.head b 0) many b)
+      (gave : (id : ℕ) × (b ≡ n + id) × (pool2 ≡ set s.pool id None)) where
     handed : HasHandedRow s.handles h2 s.lists t.after (get_or t.head b 0) many b
-    handed = rw opened.after at parting.laid
+    handed = rw opened.after at laid
 
     abbrev out2 : ℕ → ℕ
     out2 = out_of h2.hand.items h2.top.items
@@ -269,10 +267,7 @@ module _ {s : Inside} {r2 : Rings} {b : ℕ} (it : Opened s r2 b) where
     ]
 
     label_new : (v : ℕ) → v < n → label_at t.label (out2 v) ≡ label_at t.label (out v)
-    label_new v lv = ap (label_at t.label) (out_new v lv) ∙ elim (spot v lv) [
-      | in_part k lk at_k in_b hand ↦ search (rules, part_outside, at_in)
-      | beside top hand ↦ ap (label_at t.label) (sym top)
-    ]
+    label_new v lv = grind (arith, out_new v lv, out_is v lv, part_outside (fresh v), ready.outside)
 
     numbers_new : HasNumbers h2.hand.items h2.top.items r2.up.items t.base t.label t.delta t.root h2.q.items
         h2.off.items
@@ -301,8 +296,8 @@ module _ {s : Inside} {r2 : Rings} {b : ℕ} (it : Opened s r2 b) where
       ]);
       outs = λ k lk. rw (ap (λ (f : ℕ → ℕ). f k) handed.top) (writes_has (λ x. x < length t.up) _ leader at many k
           ready.row.low (tied.nest.outs k (rw handed.tops at lk)));
-      ups = λ x lx. rw (read_nat r2.up.items x 0 x (rw opened.size lx))
-          (grind (arith, ups x, read_nat t.up x x 0 lx, tied.nest.ups x lx));
+      ups = λ x lx. rw (get_or_default r2.up.items x 0 x (rw opened.size lx))
+          (grind (arith, ups x, get_or_default t.up x x 0 lx, tied.nest.ups x lx));
       climb = record { ends = λ v lv. sym (out_new v lv); tops = λ v lv. rw (out_new v lv) (climb_parted.tops v lv) };
       led = λ v lv. elim (spot v lv) [
         | in_part k lk at_k in_b hand ↦ search (rules, out_new)
@@ -319,10 +314,7 @@ module _ {s : Inside} {r2 : Rings} {b : ℕ} (it : Opened s r2 b) where
     }
 
     trail_new : IsTrailed n h2.hand.items h2.top.items t.label t.trail hid.touched
-    trail_new = trail_kept tied.trail (λ v lv named. out_new v lv ∙ elim (spot v lv) [
-      | in_part k lk at_k in_b hand ↦ absurd (named (ap (label_at t.label) in_b ∙ ready.outside))
-      | beside top hand ↦ sym top
-    ])
+    trail_new = trail_kept tied.trail (λ v lv named. grind (arith, out_new v lv, out_is v lv, ready.outside))
 
     abbrev parted : ForestTables
     parted = record t { hand = h2.hand.items; top = h2.top.items; up = r2.up.items; parts = r2.parts.items }
@@ -335,10 +327,10 @@ module _ {s : Inside} {r2 : Rings} {b : ℕ} (it : Opened s r2 b) where
 
     pool_new : IsPooled n (length t.up) r2.parts.items pool2
     pool_new =
-        let live : (node : Node) × (slice_get s.pool parting.gave.0 ≡ Some (Some node)) =
-        tied.pool.live parting.gave.0 (λ none. ready.live (ap (λ x. get_or t.parts x 0) parting.gave.1 ∙ none)) in
-        rw (opened.parts, parting.gave.2) (pool_changed tied.pool parting.gave.0 ready.high ready.low tied.sizes.parts
-        parting.gave.1 live.1 (inr (live.0, refl, ready.live)) None 0 (inl (refl, refl)))
+        let live : (node : Node) × (slice_get s.pool gave.0 ≡ Some (Some node)) =
+        tied.pool.live gave.0 (λ none. ready.live (ap (λ x. get_or t.parts x 0) gave.1 ∙ none)) in
+        rw (opened.parts, gave.2) (pool_changed tied.pool gave.0 ready.high ready.low tied.sizes.parts
+        gave.1 live.1 (inr (live.0, refl, ready.live)) None 0 (inl (refl, refl)))
 
     abbrev pub after_parting : Inside
     after_parting = record s { handles = h2; rings = r2; pool = pool2 }
@@ -350,26 +342,23 @@ module _ {s : Inside} {r2 : Rings} {b : ℕ} (it : Opened s r2 b) where
 
     -- What the forest sees.
     pub parted_is : IsParted n (forest_of t) (forest_of (seen_in after_parting)) inside b
-    parted_is = rw (opened.after, opened.joint, opened.head) (record {
-      size = opened.size;
-      holds = λ x v ne lv. ap (λ m. climbs up2 m x v) handed.hands ∙ holds_old x v ne lv;
-      holds_none = λ v lv. ap (λ m. climbs up2 m b v) handed.hands ∙ holds_none v lv;
-      out = λ v lv. rw (out_new v lv) (out_is v lv);
-      holds_out = λ v lv. rw (out_new v lv) (sym (holds_old _ v (never v n lv) lv) ∙ came_past _ n v _ refl);
-      own = search (rules, listed_place, out_new, part_fresh);
-      ended = λ v lv at_b. never v n lv (sym (out_new v lv) ∙ at_b);
-      together = λ x u v lu lv ne hu hv. out_new u lu ∙ (fresh_together x u v lu lv ne hu hv ∙ sym (out_new v lv));
-      weight = refl;
-      label = refl;
-      mate = refl;
-      link = refl;
-      up = ups;
-      after = refl;
-      joint = refl;
-      head = refl;
-      parts = λ x. ap (λ (f : ℕ → ℕ). f x) (ap (λ xs y. get_or xs y 0) opened.parts ∙ entry_set _ b 0 0 set_low);
-      rank = refl;
-    })
+    parted_is =
+        let own : (x v : ℕ) → inside x ≡ true → v < n → climbs (up_at t.up) n x v ≡ true → out2 v ≡ x =
+        search (rules, listed_place, out_new, part_fresh) in
+        rw (opened.after, opened.joint, opened.head) (assumption (
+          (λ (x v : ℕ) (ne : x ≢ b) (lv : v < n). ap (λ m. climbs up2 m x v) handed.hands ∙ holds_old x v ne lv),
+          (λ (v : ℕ) (lv : v < n). ap (λ m. climbs up2 m b v) handed.hands ∙ holds_none v lv),
+          (λ (v : ℕ) (lv : v < n). out_is v lv ∙ ap (λ x. cond (inside x) b x) (sym (out_new v lv))),
+          (λ (v : ℕ) (lv : v < n). ap (λ x. climbs (up_at t.up) n x v) (out_new v lv)
+              ∙ (sym (holds_old (fresh v) v (never v n lv) lv) ∙ came_past up2 n v (fresh v) refl)),
+          (λ (v : ℕ) (lv : v < n) (at_b : out2 v ≡ b). never v n lv (sym (out_new v lv) ∙ at_b)),
+          (λ (x u v : ℕ) (lu : u < n) (lv : v < n) (ne : x ≢ b) (hu : climbs (up_at t.up) n x u ≡ true)
+              (hv : climbs (up_at t.up) n x v ≡ true). out_new u lu ∙ (fresh_together x u v lu lv ne hu hv
+              ∙ sym (out_new v lv))),
+          ups,
+          (λ (x : ℕ). ap (λ (f : ℕ → ℕ). f x) (ap (λ xs y. get_or xs y 0) opened.parts
+              ∙ entry_set t.parts b 0 0 set_low)),
+        ))
 
 -- What the forest sees, said of the tables as contracts see them.
 pub parted_as : {t u : ForestTables} {new : Forest} {b : ℕ} → t ≡ u → IsParted (length t.hand) (forest_of t) new

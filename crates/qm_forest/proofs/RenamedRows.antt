@@ -1,5 +1,5 @@
 -- One vertex of a list, or one blossom of a row, more.
-use Rattle.std.proofs.Common.{rules, ◌≡◌, ◌≢◌, ℕ, suc, ◌+◌, ◌<◌, ◌≤◌, ◌^◌, Bool, true, false, cond, eqb, List, length}
+use Rattle.std.proofs.Common.{rules, ◌≡◌, ◌≢◌, ℕ, suc, ◌<◌, ◌≤◌, ◌^◌, Bool, true, false, cond, eqb, List, length}
 use Rattle.std.proofs.Common.{get_or, ℤ, pos, ◌+ℤ◌, ◌-ℤ◌, sym, ◌∙◌, ap, inl, inr, arith}
 use Rattle.std.proofs.{Math.ListN.set, lemmas.Int.ints, Math.Bool.or-false, Math.Bool.or-true, lemmas.List.get_or_past}
 use Rattle.std.proofs.lemmas.Bool.{cases_eq, cond-false, eq-eqb, ne_eqb}
@@ -58,10 +58,6 @@ module _ {h0 h1 : Handles} {lists : Lists} {after : List ℕ} {front many k x bi
   abbrev handle : ℕ
   handle = get_or lists.leader.items big 0
 
-  abbrev moved : ℕ → ℤ
-  moved v = (get_or h0.q.items v (pos 0) +ℤ get_or h0.off.items (get_or h0.hand.items v 0) (pos 0)) -ℤ get_or
-      h0.off.items handle (pos 0)
-
   abbrev out : ℕ → ℕ
   out v = out_of h0.hand.items h0.top.items v
 
@@ -81,7 +77,9 @@ module _ {h0 h1 : Handles} {lists : Lists} {after : List ℕ} {front many k x bi
       small_handle = rw on.2 at (has.small_leaders on.0 on.1)
 
       by_test : (v : ℕ) → v < length h0.hand.items → (s : Bool) → get_or h1.q.items v (pos 0)
-          ≡ cond s (moved v) (get_or h0.q.items v (pos 0)) → unsigned_abs (get_or h1.q.items v (pos 0)) ≤ 2 ^ 100
+          ≡ cond s ((get_or h0.q.items v (pos 0) +ℤ get_or h0.off.items (get_or h0.hand.items v 0) (pos 0))
+          -ℤ get_or h0.off.items handle (pos 0)) (get_or h0.q.items v (pos 0))
+          → unsigned_abs (get_or h1.q.items v (pos 0)) ≤ 2 ^ 100
       by_test v lv true e = omega (arith, ints, e, has.small_q v, has.small_off v lv, small_handle)
       by_test v lv false e = omega (arith, ints, e, has.small_q v)
 

@@ -1,19 +1,20 @@
 -- Two blossoms are matched with each other: the round goes on.
 use Rattle.std.proofs.Common.{rules, ◌≡◌, ◌≢◌, ℕ, zero, suc, ◌+◌, ◌-◌, ◌*◌, ◌/◌, ◌%◌, ◌<◌, ◌≤◌, Bool, true, false, cond}
-use Rattle.std.proofs.Common.{◌&&◌, List, length, get_or, Option, Some, None, ◌⊎◌, refl, sym, ◌∙◌, ap, subst, inl, inr}
-use Rattle.std.proofs.Common.{arith, length-set, get_or-set_same, get_or-set_other}
+use Rattle.std.proofs.Common.{◌&&◌, List, length, get_or, Option, Some, None, ◌⊎◌, refl, sym, ◌∙◌, ap, inl, inr, arith}
+use Rattle.std.proofs.Common.{length-set, get_or-set_same, get_or-set_other}
 use Rattle.std.proofs.lemmas.Bool.{cases_eq, cases_lt, cases_Bool, eq-eqb, ne_eqb, lt-ltb, false_from_ne_true, le-ltb}
-use Rattle.def_forest.specs.Forests.{IsTight, bool_number, splits, walk, ring_sum}
-use Rattle.def_forest.specs.Tables.{ForestTables, forest_of, up_at}
-use Rattle.forest_laws.proofs.Walks.{IsCircle, circle_from, listed_at, listed_closed, listed_place, walk_fixed}
-use Rattle.forest_laws.proofs.{Walks.walk_front, Bounds.are_darts, Bounds.twin_odd}
+use Rattle.def_forest.specs.Forests.{bool_number, splits, walk, ring_sum}
+use Rattle.def_forest.specs.{Tables.ForestTables, Tables.forest_of, Tables.up_at, Needs.IsHeld}
+use Rattle.forest_laws.proofs.{Walks.walk_front, Bounds.are_darts, Bounds.twin_odd, Walks.walk_fixed}
 use Rattle.forest_laws.proofs.Grows.{tight_twin, option_cases, some_is}
-use Rattle.qm_forest.specs.Rounds.{IsSoundFor, IsEntry, IsLaminar, IsPairing, IsRound, entered, far_at, leaving}
-use Rattle.qm_forest.specs.Rounds.{near_at, waiting, waits_but, waits_for, within}
-use Rattle.qm_forest.proofs.Withins.{alone, another, ring_around, ring_pairing, rising, climb_law, in_where, rank_walk}
-use Rattle.{std.proofs.Math.ListN.set, def_matching.specs.Matching.WeightedGraph, def_forest.specs.Darts.darts_of}
-use Rattle.{def_forest.specs.Darts.other_dart, def_forest.specs.Valid.IsRing, qm_forest.proofs.Withins.ring_front}
-use Rattle.{qm_forest.proofs.Enclosed.climbs_place, def_math.specs.Counts.count_below}
+use Rattle.qm_forest.specs.Rounds.{IsSoundFor, IsEntry, IsLaminar, IsPairing, IsRound, HasRoom, entered, far_at}
+use Rattle.qm_forest.specs.{Rounds.leaving, Rounds.near_at, Rounds.waiting, Rounds.waits_but, Rounds.waits_for}
+use Rattle.qm_forest.specs.{Rounds.within, declared.rounds.Round.Round}
+use Rattle.qm_forest.proofs.Withins.{alone, another, circle, climb_law, in_where, inner_part, part, parts, rank_walk}
+use Rattle.qm_forest.proofs.Withins.{ring_around, ring_pairing, rising}
+use Rattle.{std.proofs.Math.ListN.set, def_matching.specs.Matching.WeightedGraph, def_forest.specs.Darts.other_dart}
+use Rattle.{qm_forest.proofs.Withins.ring_front, qm_forest.proofs.Enclosed.climbs_place}
+use Rattle.{qm_forest.proofs.Enclosed.comes_by, def_math.specs.Counts.count_below}
 use Rattle.{sum_laws.proofs.Sums.count_below_same, forest_laws.specs.Walks.listed}
 
 -- A term of a count.
@@ -78,22 +79,14 @@ module _ {t : ForestTables} (known : IsLaminar t) {g : WeightedGraph} (valid : I
   e_low : e < length marks
   e_low = omega arith
 
-  sides : (b : ℕ) → splits ((forest_of t).holds b) (near_at t (2 * e)) (near_at t (2 * e + 1))
-      ≡ splits ((forest_of t).holds b) u v
-  sides b = sides_of (near_at t) ((forest_of t).holds b) d
-
   -- The edge was not chosen.
   fresh : get_or marks e false ≡ false
   fresh = false_from_ne_true _ (λ on. (
-      let at_u : splits ((forest_of t).holds u) u v ≡ true = cc (
-        alone known u u pairing.near_low pairing.near_low,
-        eq-eqb u u refl,
-        alone known u v pairing.near_low pairing.far_low,
-        ne_eqb u v pairing.apart,
-      )
-      in
+      let own = alone known u u pairing.near_low pairing.near_low ∙ eq-eqb u u refl in
+      let other = alone known u v pairing.near_low pairing.far_low ∙ ne_eqb u v pairing.apart in
+      let at_u : splits ((forest_of t).holds u) u v ≡ true = cc in
       let one : bool_number (get_or marks e false && splits ((forest_of t).holds u) (near_at t (2 * e))
-      (near_at t (2 * e + 1))) ≡ 1 = cc (sides u) in
+      (near_at t (2 * e + 1))) ≡ 1 = cc (sides_of (near_at t) ((forest_of t).holds u) d) in
       let some : bool_number (get_or marks e false && splits ((forest_of t).holds u) (near_at t (2 * e))
       (near_at t (2 * e + 1))) ≤ leaving t marks u = term_low _ _ e e_low in
       omega (arith, ap bool_number pairing.near_held, round.each u (omega arith), round.once u pairing.near_low)))
@@ -106,10 +99,8 @@ module _ {t : ForestTables} (known : IsLaminar t) {g : WeightedGraph} (valid : I
     | inl none ↦ none
     | inr s ↦ (let other = another known valid c s.0 high low (live high) in
         let entry = round.entry c s.0 s.1 in
-        let waits : waits_for t other.0 c (get_or left c None) ≡ 1 = cc (
-          alone known other.0 s.0 other.1 entry.low,
-          ne_eqb other.0 s.0 other.2,
-        ) in
+        let lone = alone known other.0 s.0 other.1 entry.low ∙ ne_eqb other.0 s.0 other.2 in
+        let waits : waits_for t other.0 c (get_or left c None) ≡ 1 = cc in
         let some : waits_for t other.0 c (get_or left c None) ≤ waiting t left other.0 =
         term_low (λ k. waits_for t other.0 k (get_or left k None)) _ c (rw size_left low) in
         let in_c : bool_number (within t other.0 c) ≡ 1 = ap bool_number other.3 in
@@ -145,7 +136,8 @@ module _ {t : ForestTables} (known : IsLaminar t) {g : WeightedGraph} (valid : I
       (near_at t (2 * k)) (near_at t (2 * k + 1))) in
       let other = λ (k : ℕ) (ne : k ≢ e). get_or-set_other marks e k true false ne in
       let more = count_more (at marks) (at (set marks e true)) _ e e_low (rw fresh) (λ k lk ne. rw (other k ne)) in
-      cc (length-set marks e true, get_or-set_same marks e true false e_low, sides b)
+      let side = sides_of (near_at t) ((forest_of t).holds b) d in
+      cc (length-set marks e true, get_or-set_same marks e true false e_low)
 
   entry_now : (c w : ℕ) → get_or (entered n first_left y v) c None ≡ Some w → IsEntry t c w
   entry_now c w is =
@@ -168,11 +160,9 @@ module _ {t : ForestTables} (known : IsLaminar t) {g : WeightedGraph} (valid : I
     once = round.once;
     tight = λ h sound k on. elim (cases_eq k e) [
       | inl at ↦ elim (cases_eq (d % 2) 0) [
-        | inl z ↦ (let s : d ≡ 2 * k = omega (arith, z, at) in
-            subst (IsTight (darts_of h) (forest_of t)) s (pairing.tight h sound))
-        | inr nz ↦ (let s : d - 1 ≡ 2 * k = omega (arith, nz, at) in
-            subst (IsTight (darts_of h) (forest_of t)) (twin_odd d nz ∙ s)
-            (tight_twin (are_darts sound.small.lawful) (pairing.tight h sound)))
+        | inl z ↦ (let s : d ≡ 2 * k = omega (arith, z, at) in rw s at (pairing.tight h sound))
+        | inr nz ↦ (let s : other_dart d ≡ 2 * k = twin_odd d nz ∙ omega (arith, nz, at) in
+            rw s at (tight_twin (are_darts sound.small.lawful) (pairing.tight h sound)))
       ]
       | inr ne ↦ round.tight h sound k (sym (get_or-set_other marks e k true false ne) ∙ on)
     ];
@@ -186,8 +176,9 @@ pub round_rest : {t : ForestTables} {marks : List Bool} {left : List (Option ℕ
     → IsRound t marks left rest2 due
 round_rest rest2 same round = grind (arith, round.each, same)
 
-module _ {t : ForestTables} (known : IsLaminar t) {g : WeightedGraph} (valid : IsSoundFor g t) {p : ℕ}
-    (inner : up_at t.up p ≢ p) where
+module _ {t : ForestTables} {r : Round} (room : HasRoom t r) {p : ℕ} (inner : up_at t.up p ≢ p) where
+  open room use {laminar, sound}
+
   abbrev after : ℕ → ℕ
   after k = get_or t.after k 0
 
@@ -197,87 +188,64 @@ module _ {t : ForestTables} (known : IsLaminar t) {g : WeightedGraph} (valid : I
   abbrev many : ℕ
   many = get_or t.parts q 0
 
-  ring : IsRing (darts_of g) (forest_of t) q
-  ring = ring_around known valid inner
-
   abbrev inside : ℕ → Bool
   inside = listed (λ k. get_or t.after k 0) (get_or t.head (up_at t.up p) 0) (get_or t.parts (up_at t.up p) 0)
-
-  part : (x : ℕ) → inside x ≡ true → (up_at t.up x ≡ q) × (x ≢ q)
-  part x on =
-      let w = listed_place _ _ many x on in (
-        ap (up_at t.up) (sym w.2) ∙ ring.inside w.0,
-        (λ e. absurd (omega (arith, ring.lower w.0, ap (λ z. get_or t.rank z 0) (w.2 ∙ e)))),
-      )
-
-  parts : (x : ℕ) → up_at t.up x ≡ q → x ≢ q → inside x ≡ true
-  parts x e ne = (let w = ring.all x e ne in
-      (rw w.2 at (listed_at after (get_or t.head q 0) many w.0 w.1)))
-
-  inner_part : (x : ℕ) → inside x ≡ true → up_at t.up x ≢ x
-  inner_part x on e = (part x on).1 (sym e ∙ (part x on).0)
-
-  circle : IsCircle after p many inside
-  circle = circle_from after _ many inside (record {
-    some = omega arith;
-    closed = ring.closed;
-    distinct = ring.distinct;
-    marked = listed_closed after many (omega arith) ring.closed;
-    all = λ x on. listed_place after _ many x on;
-  }) p (parts p refl (λ e. inner (sym e)))
 
   abbrev at : ℕ → ℕ
   at k = walk after (after p) k
 
   at_in : (k : ℕ) → inside (at k) ≡ true
-  at_in k = rw (walk_front after p k) at (circle.marked (suc k))
+  at_in k = rw (walk_front after p k) at ((circle laminar sound.1 inner).marked (suc k))
 
   abbrev sum_from : (x m b : ℕ) → ℕ
   sum_from x m b = ring_sum after (λ r. bool_number (within t b r)) x m
 
-  -- Each part and the next are a pair.
-  pub turn_pairing : (k : ℕ) {x y d : ℕ} → x ≡ at (2 * k) → y ≡ after x → d ≡ get_or t.joint x 0 → IsPairing t x y d
-  turn_pairing k {x} {y} x_is y_is d_is = rw (d_is, y_is, x_is) (search (rules, ring_pairing, inner_part, at_in))
-
   -- Before the first pair.
-  pub ring_begun : {marks : List Bool} {left : List (Option ℕ)} (rest : ℕ → ℕ) {due : ℕ → ℕ} {x : ℕ} (k : ℕ) → x
-      ≡ after p → k ≡ 0 → IsRound t marks left (λ b. sum_from (after p) (many - 1) b + rest b) due
-      → IsRound t marks left (λ b. sum_from x (many - 1 - 2 * k) b + rest b) due
+  pub ring_begun : (rest : ℕ → ℕ) {due : ℕ → ℕ} {x : ℕ} (k : ℕ) → x ≡ after p → k ≡ 0
+      → IsRound t r.marks.items r.left_out.items (λ b. sum_from (after p) (many - 1) b + rest b) due
+      → IsRound t r.marks.items r.left_out.items (λ b. sum_from x (many - 1 - 2 * k) b + rest b) due
   ring_begun rest {x} k x_is k_is round = search (rules, round_rest)
 
+  -- Each part and the next are a pair.
+  pub turn_pairing : (k : ℕ) {x y d : ℕ} → x ≡ at (2 * k) → y ≡ after x → d ≡ get_or t.joint x 0 → IsPairing t x y d
+  turn_pairing k {x} {y} x_is y_is d_is =
+      rw (d_is, y_is, x_is) (search (rules, ring_pairing, inner_part laminar sound.1 inner, at_in))
+
+  -- A part has fewer vertices than the set.
+  part_below : (x : ℕ) → inside x ≡ true → get_or t.rank x 0 < get_or t.rank q 0
+  part_below x on = rw (part laminar sound.1 inner x on).0
+      at (laminar.rises x (inner_part laminar sound.1 inner x on))
+
   -- The sets that wait after it are parts, or waited before.
-  pub turn_entries : (left : List (Option ℕ)) {left2 : List (Option ℕ)} (k : ℕ) {x y : ℕ} (d c v : ℕ) → x ≡ at (2 * k)
-      → y ≡ after x → length left ≡ length t.up → left2 ≡ entered (length t.hand)
-      (entered (length t.hand) left x (near_at t d)) y (far_at t d) → x < length t.up → y < length t.up
-      → get_or left2 c None ≡ Some v → (get_or left c None ≡ Some v) ⊎
-      (get_or t.rank c 0 < get_or t.rank (up_at t.up p) 0)
-  turn_entries left k {x} {y} d c v x_is y_is size is low_x low_y e =
-      let now = ap (λ xs. get_or xs c None) (sym is) ∙ e in
+  pub turn_entries : {left : List (Option ℕ)} (k : ℕ) {x y : ℕ} (d c v : ℕ) → x ≡ at (2 * k) → y ≡ after x
+      → left ≡ entered (length t.hand) (entered (length t.hand) r.left_out.items x (near_at t d)) y (far_at t d)
+      → IsPairing t x y d → get_or left c None ≡ Some v
+      → (get_or r.left_out.items c None ≡ Some v) ⊎ (get_or t.rank c 0 < get_or t.rank (up_at t.up p) 0)
+  turn_entries k {x} {y} d c v x_is y_is is pairing e =
       let below : (z j : ℕ) → z ≡ at j → c ≡ z → get_or t.rank c 0 < get_or t.rank (up_at t.up p) 0 =
-      λ z j z_is c_is. (let rise = known.rises (at j) (inner_part (at j) (at_in j)) in
-      let up = ap (λ w. get_or t.rank w 0) (part (at j) (at_in j)).0 in
-      omega (arith, ap (λ w. get_or t.rank w 0) (c_is ∙ z_is))) in
-      elim (entry_cases (length t.hand) (entered (length t.hand) left x (near_at t d)) y (far_at t d) c
-      (rw (entered_size (length t.hand) left x (near_at t d) ∙ size) low_y)) [
+      λ z j z_is c_is. rw (c_is ∙ z_is) (part_below (at j) (at_in j)) in
+      elim (entry_cases (length t.hand) (entered (length t.hand) r.left_out.items x (near_at t d)) y (far_at t d) c
+      (rw (entered_size (length t.hand) r.left_out.items x (near_at t d) ∙ room.left_out) pairing.low_y)) [
         | inl w ↦ inr (below y (suc (2 * k)) (y_is ∙ ap after x_is) w.1)
-        | inr same ↦ elim (entry_cases (length t.hand) left x (near_at t d) c (rw size low_x)) [
-          | inl w ↦ inr (below x (2 * k) x_is w.1)
-          | inr was ↦ inl (sym was ∙ (sym same ∙ now))
-        ]
+        | inr same ↦ elim (entry_cases (length t.hand) r.left_out.items x (near_at t d) c
+            (rw room.left_out pairing.low_x)) [
+              | inl w ↦ inr (below x (2 * k) x_is w.1)
+              | inr was ↦ inl (sym was ∙ (sym same ∙ (ap (λ xs. get_or xs c None) (sym is) ∙ e)))
+            ]
       ]
 
   -- One pair more.
-  pub ring_turn : {marks : List Bool} {marks2 : List Bool} {left : List (Option ℕ)} {left2 : List (Option ℕ)}
-      (rest : ℕ → ℕ) {due : ℕ → ℕ} (k j : ℕ) {x y d : ℕ} → x ≡ at (2 * k) → k < many / 2 → y ≡ after x → d
-      ≡ get_or t.joint x 0 → j ≡ k + 1 → length t.near ≡ 2 * length marks → length left ≡ length t.up → marks2
-      ≡ set marks (d / 2) true → left2 ≡ entered (length t.hand) (entered (length t.hand) left x (near_at t d)) y
-      (far_at t d) → IsRound t marks left (λ b. sum_from x (many - 1 - 2 * k) b + rest b) due
-      → IsRound t marks2 left2 (λ b. sum_from (after y) (many - 1 - 2 * j) b + rest b) due
-  ring_turn {marks} {left} {left2} rest {due} k j {x} {y} {d} x_is low y_is d_is j_is size_marks size_left marks_is
-      left_is round =
+  pub ring_turn : {marks : List Bool} {left : List (Option ℕ)} (rest : ℕ → ℕ) {due : ℕ → ℕ} (k j : ℕ) {x y d : ℕ}
+      → x ≡ at (2 * k) → k < many / 2 → y ≡ after x → d ≡ get_or t.joint x 0 → j ≡ k + 1
+      → marks ≡ set r.marks.items (d / 2) true
+      → left ≡ entered (length t.hand) (entered (length t.hand) r.left_out.items x (near_at t d)) y (far_at t d)
+      → IsRound t r.marks.items r.left_out.items (λ b. sum_from x (many - 1 - 2 * k) b + rest b) due
+      → IsRound t marks left (λ b. sum_from (after y) (many - 1 - 2 * j) b + rest b) due
+  ring_turn rest k j {x} {y} {d} x_is low y_is d_is j_is marks_is left_is round =
       let peeled : (b : ℕ) → sum_from x (many - 1 - 2 * k) b + rest b
       ≡ (bool_number (within t b x) + bool_number (within t b y)) + (sum_from (after y) (many - 1 - 2 * j) b + rest b) =
-      λ b. (let two : many - 1 - 2 * k ≡ suc (suc (many - 1 - 2 * j)) = omega (arith, ring.odd, low, j_is) in
+      λ b. (let two : many - 1 - 2 * k ≡ suc (suc (many - 1 - 2 * j)) =
+      omega (arith, (ring_around laminar sound.1 inner).odd, low, j_is) in
       let front = ring_front after (λ r. bool_number (within t b r)) in
       rw (y_is, two) (omega (arith, front x (suc (many - 1 - 2 * j)), front (after x) (many - 1 - 2 * j)))) in
       rw (marks_is, left_is) (search (rules, paired_round, round_rest, turn_pairing))
@@ -288,53 +256,38 @@ module _ {t : ForestTables} (known : IsLaminar t) {g : WeightedGraph} (valid : I
   ring_ended rest k x k_is round = search (rules, round_rest)
 
   -- From a part to its set.
-  pub ring_climb : {marks : List Bool} {left : List (Option ℕ)} (rest : ℕ → ℕ) {due : ℕ → ℕ} (v : ℕ) {c : ℕ} (j : ℕ)
-      → within t v p ≡ true → v < length t.hand → walk (up_at t.up) q j ≡ c → get_or t.rank c 0 ≤ length t.hand
-      → get_or t.rank q 0 ≤ length t.hand → IsRound t marks left (λ b. cond (within t b p) 0 (waits_but t b c v) + rest
-      b) due → IsRound t marks left (λ b. sum_from (after p) (many - 1) b +
-      (cond (within t b q) 0 (waits_but t b c v) + rest b)) due
-  ring_climb rest v {c} j held lv climbs' low_c low_q round =
-      let low : (x : ℕ) → inside x ≡ true → get_or t.rank x 0 ≤ length t.hand = λ x on. omega (
-        arith,
-        known.rises x (inner_part x on),
-        ap (λ z. get_or t.rank z 0) (part x on).0,
-        low_q,
-      ) in
-      round_rest _ (λ b l. (let law = climb_law (rising known) q v circle part parts low low_q low_c held j climbs' b in
-      omega arith)) round
+  pub ring_climb : (rest : ℕ → ℕ) {due : ℕ → ℕ} (v : ℕ) {c : ℕ} (j : ℕ) → within t v p ≡ true
+      → walk (up_at t.up) q j ≡ c → get_or t.rank c 0 ≤ length t.hand → get_or t.rank q 0 ≤ length t.hand
+      → IsRound t r.marks.items r.left_out.items (λ b. cond (within t b p) 0 (waits_but t b c v) + rest b) due
+      → IsRound t r.marks.items r.left_out.items (λ b. sum_from (after p) (many - 1) b
+      + (cond (within t b q) 0 (waits_but t b c v) + rest b)) due
+  ring_climb rest v {c} j held climbs' low_c low_q round =
+      let low : (x : ℕ) → inside x ≡ true → get_or t.rank x 0 ≤ length t.hand =
+      λ x on. omega (arith, part_below x on, low_q) in
+      let law = climb_law (rising laminar) q v (circle laminar sound.1 inner) (part laminar sound.1 inner)
+      (parts laminar sound.1 inner) low low_q low_c held j climbs' in
+      round_rest _ (λ b l. omega (arith, law b)) round
 
--- Going up from a vertex: at it, at each step, and at the end.
-module _ {t : ForestTables} (known : IsLaminar t) {v : ℕ} (c : ℕ) (lv : v < length t.hand)
-    (held : within t v c ≡ true) where
+-- Going up from a vertex, at each step.
+module _ {t : ForestTables} (known : IsLaminar t) {c v : ℕ} (is : IsHeld t c v) where
   pub top_rank : get_or t.rank c 0 ≤ length t.hand
-  top_rank = known.passed c v lv held
+  top_rank = known.passed c v is.vertex is.held
 
   pub climb_begins : {marks : List Bool} {left : List (Option ℕ)} (rest : ℕ → ℕ) {due : ℕ → ℕ}
       → IsRound t marks left (λ b. waits_but t b c v + rest b) due
       → IsRound t marks left (λ b. cond (within t b v) 0 (waits_but t b c v) + rest b) due
   climb_begins rest round = search rules
 
-  pub climb_ends : {marks : List Bool} {left : List (Option ℕ)} (rest : ℕ → ℕ) {due : ℕ → ℕ} {p : ℕ} → p ≡ c
-      → IsRound t marks left (λ b. cond (within t b p) 0 (waits_but t b c v) + rest b) due
-      → IsRound t marks left rest due
-  climb_ends rest {p} p_is round = round_rest rest (λ b l. grind arith) round
-
   module _ {p : ℕ} (above : (j : ℕ) × (walk (up_at t.up) p j ≡ c)) (below : p ≢ c) where
     pub climbs_on : up_at t.up p ≢ p
     climbs_on e = below (sym (walk_fixed (up_at t.up) above.0 e) ∙ above.1)
 
     pub above_more : (j : ℕ) × (walk (up_at t.up) (up_at t.up p) j ≡ c)
-    above_more = by_steps above.0 above.1
-      where
-        by_steps : (j : ℕ) → walk (up_at t.up) p j ≡ c → (j : ℕ) × (walk (up_at t.up) (up_at t.up p) j ≡ c)
-        by_steps zero e = absurd (below e)
-        by_steps (suc j) e = (j, sym (walk_front (up_at t.up) p j) ∙ e)
+    above_more = let w = comes_by (up_at t.up) p above.0 above.1 below in
+        (w.3, sym (walk_front (up_at t.up) p w.3) ∙ (ap (up_at t.up) w.4 ∙ w.1))
 
     pub next_rank : get_or t.rank (up_at t.up p) 0 ≤ get_or t.rank c 0
-    next_rank =
-        let h : get_or t.rank (up_at t.up p) 0 ≤ get_or t.rank (walk (up_at t.up) (up_at t.up p) above_more.0) 0 =
-        rank_walk (rising known) (up_at t.up p) above_more.0 in
-        omega (arith, h, ap (λ z. get_or t.rank z 0) above_more.1)
+    next_rank = rw above_more.1 at (rank_walk (rising known) (up_at t.up p) above_more.0)
 
     pub rises_here : get_or t.rank p 0 < get_or t.rank (up_at t.up p) 0
     rises_here = known.rises p climbs_on

@@ -10,17 +10,17 @@ use Rattle.def_forest.specs.{Ways.dart_or, declared.kinds.Label.Label, declared.
 use Rattle.def_forest.specs.{declared.kinds.Label.TheVariants.Outside}
 use Rattle.qm_forest.specs.Ties.{HiddenTables, fixed_of, HasSameNest, labelled, mated, left_alone}
 use Rattle.qm_forest.specs.{Views.tables_of, Views.hidden_of, declared.forest.Forest.TheInside.Inside}
-use Rattle.qm_forest.specs.{Gathers.IsFreeRing, Gathers.IsGathered, Gathers.live_sets, Rings.IsRingedAlike}
-use Rattle.qm_forest.specs.{Rings.laid_ring}
+use Rattle.qm_forest.specs.{Gathers.HasClosed, Gathers.IsFreeRing, Gathers.IsGathered, Gathers.live_sets}
+use Rattle.qm_forest.specs.{Rings.IsRingedAlike, Rings.laid_ring}
 use Rattle.def_matching.specs.Matching.{WeightedGraph, IsSmallGraph}
 use Rattle.forest_laws.specs.Climbing.{rise_of, way_of, IsClimbing, ring_at, ring_dart}
 use Rattle.forest_laws.specs.Walks.{listed, writes}
 use Rattle.forest_laws.proofs.Forks.{Fork, at_left, at_right, at_named, dart_left, dart_over, dart_right, closed_row}
 use Rattle.forest_laws.proofs.Forks.{left_differs, right_differs, ring_cycle, walks, ways_differ}
-use Rattle.forest_laws.proofs.Grows.{label_cases, option_cases, outer_named, set_here, set_there, true_false}
+use Rattle.forest_laws.proofs.Grows.{label_cases, named_low, option_cases, outer_named, set_here, set_there, true_false}
 use Rattle.forest_laws.proofs.{Bounds.are_darts, Shrinks.Shrink, Shrinks.shrunk_valid, Odds.IsBlossom, Odds.holder_used}
 use Rattle.forest_laws.proofs.{Odds.sets_few, Walks.listed_at, Walks.writes_all, Walks.writes_at, Walks.writes_off}
-use Rattle.qm_forest.proofs.{OnWays.valid_as, Increases.the_tree, Increases.named_low}
+use Rattle.qm_forest.proofs.{OnWays.valid_as, Increases.the_tree}
 
 abbrev pub seen_in : Inside → ForestTables
 seen_in s = tables_of s.handles s.lists s.rings s.trail s.weights s.tree s.room
@@ -94,6 +94,9 @@ module _ {g : WeightedGraph} {t0 : ForestTables} {start top left right : ℕ}
   abbrev ups : ℕ → ℕ
   ups i = dart_or (rise_of f (way_c i))
 
+  at_middle : at left ≡ way_a 0
+  at_middle = let z : left - left ≡ 0 = omega arith in at_left fork left (omega arith) ∙ ap way_a z
+
   -- A table that is written along the ring, down the first way and up the second.
   module _ {X : Type 0} (old : ℕ → X) (down : ℕ → X) (over : X) (up : ℕ → X) where
     abbrev low_part : ℕ → X
@@ -112,10 +115,8 @@ module _ {g : WeightedGraph} {t0 : ForestTables} {start top left right : ℕ}
         (omega (arith, l)) (λ i j lij lj. left_differs fork (suc i) (suc j) (omega (arith, lij)) (omega (arith, lj)))))
 
     lain_over : lain (at left) ≡ over
-    lain_over =
-        let z : left - left ≡ 0 = omega arith in
-        ap lain (at_left fork left (omega arith) ∙ ap way_a z) ∙ (writes_off _ _ _ right (way_a 0)
-        (λ m lm. ways_differ fork 0 m (omega arith) lm) ∙ set_here low_part (way_a 0) over)
+    lain_over = ap lain at_middle ∙ (writes_off _ _ _ right (way_a 0) (λ m lm. ways_differ fork 0 m (omega arith) lm)
+        ∙ set_here low_part (way_a 0) over)
 
     lain_right : {k : ℕ} (m : ℕ) → k ≡ left + 1 + m → m < right → lain (at k) ≡ up m
     lain_right {k} m e l = ap lain (at_right fork k m e) ∙ writes_at _ _ up right m l (right_differs fork)
@@ -134,12 +135,10 @@ module _ {g : WeightedGraph} {t0 : ForestTables} {start top left right : ℕ}
     ]
 
     lain_off : (x : ℕ) → ((k : ℕ) → k < left + right + 1 → at k ≢ x) → lain x ≡ old x
-    lain_off x off =
-        let z : left - left ≡ 0 = omega arith in
-        writes_off _ _ _ right x (λ m lm e. off (left + 1 + m) (omega arith) (at_right fork _ m refl ∙ e))
-        ∙ (set_there low_part _ x over (λ e. off left (omega arith) (at_left fork left (omega arith)
-        ∙ (ap way_a z ∙ sym e))) ∙ writes_off old _ down left x (λ i li e. off (left - suc i) (omega arith)
-        (let s : left - (left - suc i) ≡ suc i = omega arith in
+    lain_off x off = writes_off _ _ _ right x
+        (λ m lm e. off (left + 1 + m) (omega arith) (at_right fork _ m refl ∙ e))
+        ∙ (set_there low_part _ x over (λ e. off left (omega arith) (at_middle ∙ sym e)) ∙ writes_off old _ down left x
+        (λ i li e. off (left - suc i) (omega arith) (let s : left - (left - suc i) ≡ suc i = omega arith in
         at_left fork _ (omega arith) ∙ (ap way_a s ∙ e))))
 
   abbrev pub after : ℕ → ℕ
@@ -179,7 +178,7 @@ module _ {g : WeightedGraph} {t0 : ForestTables} {start top left right : ℕ}
   spot_out k l = valid.valid.outermost.named _ (walk_named k l)
 
   spot_low : (k : ℕ) → k < many → walk after top k < length t0.up
-  spot_low k l = named_low is valid _ (walk_named k l)
+  spot_low k l = named_low are valid.valid (walk_named k l)
 
   spot_used : (k : ℕ) → k < many → IsBlossom d f (walk after top k)
   spot_used k l = (let w = spot_out k l in holder_used are valid.valid.nested w.1
@@ -187,11 +186,11 @@ module _ {g : WeightedGraph} {t0 : ForestTables} {start top left right : ℕ}
 
   -- Three blossoms are on the ring, so that there is room for a set more.
   pub room_is : 2 * live_sets t0 + 3 ≤ length t0.hand
-  room_is = rw valid.vertices (sets_few d are f valid.valid.nested valid.valid.outermost.vertices _
-      (λ k l. spot_low k (omega (arith, ring_is.odd, ring_is.some))) (λ i j lij lj. ring_is.distinct i j lij
-      (omega (arith, ring_is.odd, ring_is.some))) (λ k l. (let w = spot_out k (omega (arith, ring_is.odd, ring_is.some))
-      in
-      rw w.2 at (valid.valid.outermost.tops w.0 w.1))) (λ k l. spot_used k (omega (arith, ring_is.odd, ring_is.some))))
+  room_is =
+      let low : (k : ℕ) → k < 3 → k < many = λ k l. omega (arith, ring_is.odd, ring_is.some) in
+      rw valid.vertices (sets_few d are f valid.valid.nested valid.valid.outermost.vertices _
+      (λ k l. spot_low k (low k l)) (λ i j lij lj. ring_is.distinct i j lij (low j lj)) (λ k l. (let w =
+      spot_out k (low k l) in rw w.2 at (valid.valid.outermost.tops w.0 w.1))) (λ k l. spot_used k (low k l)))
 
   -- The ring that is laid is one of outermost blossoms.
   pub tops_laid : (t1 : ForestTables) → forest_of t1 ≡ laid_ring d f start left right
@@ -243,88 +242,90 @@ module _ {g : WeightedGraph} {t0 : ForestTables} {start top left right : ℕ}
       root = λ r e. outermost_same r (outer_named (valid.valid.tree r (sym nest_is.root ∙ e)).root_outer);
     }
 
-    -- And what has come of it is one outer blossom, matched as the top was.
-    module _ (t5 : ForestTables) {mate : Option ℕ} (mate_was : mate ≡ f.mate top) (t3 : ForestTables) {b : ℕ} (v : ℕ)
-        (gathered : IsGathered (length t2.hand) (forest_of t2) (forest_of t3) (listed (λ i. get_or t2.after i 0) top
-        many) top many b) (v_is : (forest_of t3).out v ≡ b) (done : forest_of t5 ≡ mated
-        (labelled (forest_of t3) ((forest_of t3).out v) Outer) b mate) (root : (r : ℕ) → t1.root ≡ Some r → t5.root
-        ≡ Some (cond (listed (λ i. get_or t2.after i 0) top many r) b r)) (hand : length t5.hand ≡ length t1.hand) where
-      now : forest_of t5 ≡ mated (labelled (forest_of t3) b Outer) b (f.mate top)
-      now = rw (v_is, mate_was) at done
+  -- And what has come of it is one outer blossom, matched as the top was.
+  module _ {t1 t5 : ForestTables} (laid : forest_of t1 ≡ laid_ring d f start left right) (alike : IsRingedAlike t0 t1)
+      {mate : Option ℕ} (mate_was : mate ≡ f.mate top) (closed : HasClosed t1 t5 top many mate) where
+    open closed use {b, gathered}
 
-      -- What was gathered, told of the forest before.
-      made : IsGathered g.n (left_alone (laid_ring d f start left right) top many) (forest_of t3) inside top many b
-      made = subst (λ (h : ℕ → ℕ). IsGathered g.n (left_alone (laid_ring d f start left right) top many) (forest_of t3)
-          (listed h top many) top many b) after_is (rw (was, n_is) at gathered)
+    after_left : (λ k. get_or closed.left.after k 0) ≡ after
+    after_left = after_is laid alike closed.gone closed.same
 
-      shrunk : IsShrunk g.n f (forest_of t5) inside top b top many
-      shrunk = rw now (assumption (
-        (λ (x : ℕ). ap (λ (h : ℕ → ℤ). h x) made.weight),
-        set_same (forest_of t3).label (λ y. cond (inside y) Outside (f.label y)) b Outer
-            (λ y ne. ap (λ (h : ℕ → Label). h y) made.label ∙ writes_all f.label after top many Outside y),
-        set_same (forest_of t3).mate (λ y. cond (inside y) None (f.mate y)) b (f.mate top)
-            (λ y ne. ap (λ (h : ℕ → Option ℕ). h y) made.mate ∙ writes_all f.mate after top many None y),
-        (λ (x : ℕ). ap (λ (h : ℕ → ℕ). h x) made.link),
-        (λ (x : ℕ) (off : inside x ≡ false). ap (λ (h : ℕ → ℕ). h x) made.after
-            ∙ lain_off f.nest.after way_a c (λ i. way_c (suc i)) x (missed x off)),
-        (λ (x : ℕ) (off : inside x ≡ false). ap (λ (h : ℕ → ℕ). h x) made.joint
-            ∙ lain_off f.nest.joint downs start ups x (missed x off)),
-        made,
-      ))
+    now : forest_of t5 ≡ mated (labelled (forest_of gathered) b Outer) b (f.mate top)
+    now = rw (closed.holds, mate_was) at closed.done
 
-      row_is : IsClosedRow d f (forest_of t5).nest.after (forest_of t5).nest.joint inside top many
-      row_is = search (rules, ring_is)
+    -- What was gathered, told of the forest before.
+    made : IsGathered g.n (left_alone (laid_ring d f start left right) top many) (forest_of gathered) inside top many b
+    made = subst (λ (h : ℕ → ℕ). IsGathered g.n (left_alone (laid_ring d f start left right) top many)
+        (forest_of gathered) (listed h top many) top many b) after_left
+        (rw (was laid alike closed.gone closed.same, n_is laid alike closed.gone closed.same) at closed.is)
 
-      unused : IsUnused g.n f b
-      unused =
-          let outside : f.label b ≡ Outside = elim (label_cases (f.label b)) [
-            | inl e ↦ e
-            | inr named ↦ (let w = valid.valid.outermost.named b named in absurd (made.no_out w.0 w.1 w.2))
-          ] in
-          let unmatched : f.mate b ≡ None = elim (option_cases (f.mate b)) [
-            | inl e ↦ e
-            | inr m ↦ (let pair = valid.valid.matched b m.0 m.1 in
-                absurd (made.no_out (d.near m.0) (are.near_low m.0 pair.tight.low) pair.here))
-          ] in
-          assumption (made, valid.valid.nested.weightless b made.high made.no_parts)
+    shrunk : IsShrunk g.n f (forest_of t5) inside top b top many
+    shrunk = rw now (assumption (
+      (λ (x : ℕ). ap (λ (h : ℕ → ℤ). h x) made.weight),
+      set_same (forest_of gathered).label (λ y. cond (inside y) Outside (f.label y)) b Outer
+          (λ y ne. ap (λ (h : ℕ → Label). h y) made.label ∙ writes_all f.label after top many Outside y),
+      set_same (forest_of gathered).mate (λ y. cond (inside y) None (f.mate y)) b (f.mate top)
+          (λ y ne. ap (λ (h : ℕ → Option ℕ). h y) made.mate ∙ writes_all f.mate after top many None y),
+      (λ (x : ℕ). ap (λ (h : ℕ → ℕ). h x) made.link),
+      (λ (x : ℕ) (off : inside x ≡ false). ap (λ (h : ℕ → ℕ). h x) made.after
+          ∙ lain_off f.nest.after way_a c (λ i. way_c (suc i)) x (missed x off)),
+      (λ (x : ℕ) (off : inside x ≡ false). ap (λ (h : ℕ → ℕ). h x) made.joint
+          ∙ lain_off f.nest.joint downs start ups x (missed x off)),
+      made,
+    ))
 
-      new_root : t5.root ≡ Some (cond (inside tree_is.0) b tree_is.0)
-      new_root = root tree_is.0 (ap (λ (t : ForestTables). t.root) alike ∙ tree_is.1)
-          ∙ ap (λ (h : ℕ → ℕ). Some (cond (listed h top many tree_is.0) b tree_is.0)) after_is
+    row_is : IsClosedRow d f (forest_of t5).nest.after (forest_of t5).nest.joint inside top many
+    row_is = subst (λ (n : Forest). IsClosedRow d f n.nest.after n.nest.joint inside top many) (sym now)
+        (rw (made.after, made.joint) ring_is)
 
-      -- The cycle has become one blossom.
-      shrinking : IsShrinking d f (forest_of t5) t0.root t5.root start
-      shrinking = record {
-        r = tree_is.0;
-        old_root = tree_is.1;
-        tree = tree_is.2;
-        inside = inside;
-        top = top;
-        set = b;
-        many = many;
-        begins = marked left a (omega arith)
-            (at_left fork left (omega arith) ∙ ap way_a (let z : left - left ≡ 0 = omega arith in z));
-        ends = elim (cases_eq right 0) [
-          | inl z ↦ ap inside (ap way_c (sym z) ∙ sym met.y_is) ∙ listed_at after top many 0 (omega arith)
-          | inr nz ↦ marked (left + 1) c (omega (arith, nz)) (at_right fork (left + 1) 0 (omega arith))
-        ];
-        cycle = cycle_is;
-        unused = unused;
-        row = row_is;
-        shrunk = shrunk;
-        root_is = new_root;
-      }
-        where
-          marked : (k x : ℕ) → k < many → at k ≡ x → inside x ≡ true
-          marked k x l e = ap inside (sym (walk_at k (omega (arith, l)) ∙ e)) ∙ listed_at after top many k l
+    unused : IsUnused g.n f b
+    unused =
+        let outside : f.label b ≡ Outside = elim (label_cases (f.label b)) [
+          | inl e ↦ e
+          | inr named ↦ (let w = valid.valid.outermost.named b named in absurd (made.no_out w.0 w.1 w.2))
+        ] in
+        let unmatched : f.mate b ≡ None = elim (option_cases (f.mate b)) [
+          | inl e ↦ e
+          | inr m ↦ (let pair = valid.valid.matched b m.0 m.1 in
+              absurd (made.no_out (d.near m.0) (are.near_low m.0 pair.tight.low) pair.here))
+        ] in
+        assumption (made, valid.valid.nested.weightless b made.high made.no_parts)
 
-      -- And the forest is valid.
-      pub shrunk_tables : fixed_of t5 ≡ fixed_of t1 → IsShrinking d f (forest_of t5) t0.root t5.root start
-          × IsValidFor g t5
-      shrunk_tables fixed =
-          let is_shrink : Shrink d f tree_is.0 (forest_of t5) inside top b top many =
-          search (are, whole, cycle_is, unused, row_is, shrunk) in (
-            shrinking,
-            valid_as t5 valid (fixed ∙ ap fixed_of alike) (hand ∙ ap (λ (t : ForestTables). length t.hand) alike)
-                (rw new_root (shrunk_valid is_shrink)),
-          )
+    new_root : t5.root ≡ Some (cond (inside tree_is.0) b tree_is.0)
+    new_root = closed.root tree_is.0 (ap (λ (t : ForestTables). t.root) alike ∙ tree_is.1)
+        ∙ ap (λ (h : ℕ → ℕ). Some (cond (listed h top many tree_is.0) b tree_is.0)) after_left
+
+    -- The cycle has become one blossom.
+    shrinking : IsShrinking d f (forest_of t5) t0.root t5.root start
+    shrinking = record {
+      r = tree_is.0;
+      old_root = tree_is.1;
+      tree = tree_is.2;
+      inside = inside;
+      top = top;
+      set = b;
+      many = many;
+      begins = marked left a (omega arith) at_middle;
+      ends = elim (cases_eq right 0) [
+        | inl z ↦ ap inside (ap way_c (sym z) ∙ sym met.y_is) ∙ listed_at after top many 0 (omega arith)
+        | inr nz ↦ marked (left + 1) c (omega (arith, nz)) (at_right fork (left + 1) 0 (omega arith))
+      ];
+      cycle = cycle_is;
+      unused = unused;
+      row = row_is;
+      shrunk = shrunk;
+      root_is = new_root;
+    }
+      where
+        marked : (k x : ℕ) → k < many → at k ≡ x → inside x ≡ true
+        marked k x l e = ap inside (sym (walk_at k (omega (arith, l)) ∙ e)) ∙ listed_at after top many k l
+
+    -- And the forest is valid.
+    pub shrunk_tables : IsShrinking d f (forest_of t5) t0.root t5.root start × IsValidFor g t5
+    shrunk_tables =
+        let is_shrink : Shrink d f tree_is.0 (forest_of t5) inside top b top many =
+        search (are, whole, cycle_is, unused, row_is, shrunk) in (
+          shrinking,
+          valid_as t5 valid (closed.fixed ∙ ap fixed_of alike)
+              (closed.hand ∙ ap (λ (t : ForestTables). length t.hand) alike) (rw new_root (shrunk_valid is_shrink)),
+        )

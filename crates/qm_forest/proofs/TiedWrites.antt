@@ -2,7 +2,7 @@
 use Rattle.std.proofs.Common.{rules, ◌≡◌, ◌≢◌, ℕ, ◌<◌, cond, List, length, ℤ, pos, Option, None, sym, ◌∙◌, ap, inl, inr}
 use Rattle.std.proofs.Common.{Bool, ◌≤ℤ◌, arith, zero, suc, ◌*◌, ◌≤◌, ◌^◌, true, false, get_or, ◌+ℤ◌, ◌+◌, [], ◌∷◌}
 use Rattle.std.proofs.Common.{◌++◌, count_by, ◌-ℤ◌, refl, length-set, get_or-set_same, get_or-set_other}
-use Rattle.std.proofs.{lemmas.Int.ints, lemmas.Bool.cases_eq, lemmas.Option.slice_get-get_or, Math.ListN.set}
+use Rattle.std.proofs.{lemmas.Int.ints, lemmas.Bool.cases_eq, Math.ListN.set}
 use Rattle.std.proofs.{Math.Path.fun_ext, lemmas.List.Sums.count_by-le-length, lemmas.List.Sums.sum_by-set}
 use Rattle.std.proofs.lemmas.List.{get_or_append_left, get_or_push, length_push}
 use Rattle.def_forest.specs.Tables.{ForestTables, climbs, label_at, out_of, up_at, weight_at, forest_of, IsOutermostIn}
@@ -10,7 +10,7 @@ use Rattle.def_forest.specs.{declared.kinds.Label.Label, declared.kinds.Label.Th
 use Rattle.qm_forest.specs.Ties.{AreTied, HiddenTables, HasSizes, HasNumbers, IsLaidOut, IsPooled, IsTrailed, added}
 use Rattle.qm_forest.specs.Ties.{told, potential, IsOnTrail, labelled, mated, linked}
 use Rattle.{sum_laws.proofs.Sums.total_below_same, def_forest.specs.Steps.weight_change, std.specs.Prelude.unsigned_abs}
-use Rattle.{def_math.specs.Sums.total_below, forest_laws.proofs.Grows.by_none}
+use Rattle.{def_math.specs.Sums.total_below}
 use mir.{Syntax.w128, Val.to_z, Val.of_z}
 
 -- The tie, from what is said of so many vertices and numbers of blossoms.
@@ -32,10 +32,8 @@ pub numbers_kept : {t : ForestTables} {hid : HiddenTables} (tied : AreTied t hid
     u)) → HasNumbers hand top up t.base t.label t.delta root q off
 numbers_kept {t} tied {b} weightless {hand} {up} hand_size up_size past root_is told_same moved = record {
   potentials = λ v l. (let lv : v < length t.hand = omega arith in
-      rw (hand_size, up_size) (total_below_same _ _ (length t.up) (λ x lx. elim (cases_eq x b) [
-        | inl e ↦ rw (e, weightless) (by_none _ ∙ sym (by_none _))
-        | inr ne ↦ ap (λ (s : Bool). cond s (weight_at t.base t.label t.delta x) (pos 0)) (past x v ne lv)
-      ])) ∙ (tied.numbers.potentials v lv ∙ sym (told_same v lv)));
+      rw (hand_size, up_size) (total_below_same _ _ (length t.up) (λ x lx.
+      grind (arith, cases_eq x b, weightless, past x v))) ∙ (tied.numbers.potentials v lv ∙ sym (told_same v lv)));
   small = tied.numbers.small;
   start = tied.numbers.start;
   small_start = tied.numbers.small_start;
@@ -83,24 +81,14 @@ pub change_small : (l : Label) (d : ℤ) → unsigned_abs (weight_change l d) �
 change_small l d = grind (arith, ints)
 
 module _ {t : ForestTables} {hid : HiddenTables} (tied : AreTied t hid) where
+  weights_small : unsigned_abs (total_below (forest_of t).weight (length t.up)) ≤ length t.up * 2 ^ 62
+  weights_small = sum_small (forest_of t).weight (length t.up) (λ k l. tied.numbers.small k)
+
   pub delta_small : unsigned_abs t.delta ≤ 2 ^ 92
-  delta_small = omega (
-    arith,
-    ints,
-    sum_small (forest_of t).weight (length t.up) (λ k l. tied.numbers.small k),
-    tied.numbers.small_start,
-    tied.numbers.risen.0,
-    tied.numbers.risen.1,
-  )
+  delta_small = omega (arith, ints, weights_small, tied.numbers.small_start, tied.numbers.risen)
 
   pub added_small : (v : ℕ) → v < length t.hand → unsigned_abs (added t.hand t.top hid.off t.label t.delta v) ≤ 2 ^ 92
-  added_small v l = omega (
-    arith,
-    ints,
-    sum_small (forest_of t).weight (length t.up) (λ k l. tied.numbers.small k),
-    tied.numbers.small_start,
-    tied.numbers.moved v l,
-  )
+  added_small v l = omega (arith, ints, weights_small, tied.numbers.small_start, tied.numbers.moved v l)
 
   pub potential_small : (v : ℕ) → unsigned_abs (potential (forest_of t) v) ≤ 2 ^ 88
   potential_small v =
@@ -138,13 +126,6 @@ pub base_small : {t : ForestTables} {hid : HiddenTables} → AreTied t hid → (
 base_small {t} tied b =
     let change = change_small (label_at t.label b) t.delta in
     omega (arith, ints, tied.numbers.small b, delta_small tied)
-
-pub read_nat : (xs : List ℕ) (b r d : ℕ) → b < length xs → get_or xs b r ≡ get_or xs b d
-read_nat xs b r d low = cc (slice_get-get_or xs b r low, slice_get-get_or xs b d low)
-
--- A mark that is read, whatever would stand past the end.
-pub mark_read : (xs : List Bool) (v : ℕ) {r : Bool} (d : Bool) → v < length xs → r ≡ get_or xs v r → get_or xs v d ≡ r
-mark_read xs v {r} d low e = cc (slice_get-get_or xs v r low, slice_get-get_or xs v d low)
 
 -- One write to a table, or a vertex more on the trail, and what it leaves of the tie.
 
@@ -185,10 +166,8 @@ module _ {t : ForestTables} {hid : HiddenTables} (tied : AreTied t hid) {v b h :
   label_there k ne = get_or-set_other t.label b k l Outside ne
 
   weight_same : weight_at (set t.base b x) (set t.label b l) t.delta ≡ (forest_of t).weight
-  weight_same = fun_ext (λ k. elim (cases_eq k b) [
-    | inl e ↦ rw (e, get_or-set_same t.base b x (pos 0) (rw tied.sizes.base b_low), label_here) base_is
-    | inr ne ↦ rw (get_or-set_other t.base b k x (pos 0) ne, label_there k ne)
-  ])
+  weight_same = let here = get_or-set_same t.base b x (pos 0) (rw tied.sizes.base b_low) in
+      fun_ext (λ k. grind (arith, cases_eq k b, label_here, label_there k, get_or-set_other t.base b k x (pos 0)))
 
   pub seen_label : forest_of (record t { base = set t.base b x; label = set t.label b l })
       ≡ labelled (forest_of t) (out_of t.hand t.top v) l

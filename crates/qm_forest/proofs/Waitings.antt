@@ -200,11 +200,11 @@ taken {t} {left} c v low here round = record {
 }
   where
     less : (b : ℕ) → waiting t left b ≡ waiting t (set left c None) b + waits_but t b c v
-    less b = cc (
-      count_more (λ k. waits_for t b k (get_or (set left c None) k None)) (λ k. waits_for t b k (get_or left k None))
-          (length left) c low (ap (waits_for t b c) (get_or-set_same left c None None low)) (search rules),
-      length-set left c None,
-    )
+    less b =
+        let more = count_more (λ k. waits_for t b k (get_or (set left c None) k None))
+        (λ k. waits_for t b k (get_or left k None)) (length left) c low
+        (ap (waits_for t b c) (get_or-set_same left c None None low)) (search rules) in
+        cc (length-set left c None)
 
 -- Pairs that are sorted have first parts that do not fall.
 pub firsts_rise : (xs : List (ℕ × ℕ)) → IsSorted (λ (x y : ℕ × ℕ). ordering_then (nat_cmp x.0 y.0) (nat_cmp x.1 y.1)) xs
@@ -223,11 +223,9 @@ count_is f (x ∷ xs) = ap (λ m. f x + m) (count_is f xs) ∙ sym (sum_by-cons 
 -- The sets of a list, moved about.
 pub sets_moved : {t : ForestTables} {bound : ℕ} {xs : List (ℕ × ℕ)} (ys : List (ℕ × ℕ)) → IsPermutation xs ys
     → HasSets t bound xs → HasSets t bound ys
-sets_moved {t} {bound} {xs} ys moved has = record {
-  each = All-permutation (IsSized t bound) xs ys moved has.each;
-  all = λ b high low live. Contains-permutation xs ys (get_or t.rank b 0, b) moved (has.all b high low live);
-  counts = search (rules, count_is, sum_by-IsPermutation);
-}
+sets_moved {t} {bound} {xs} ys moved has =
+    let each = All-permutation (IsSized t bound) xs ys moved has.each in
+    search (rules, Contains-permutation xs ys, has.all, has.counts, count_is, sum_by-IsPermutation)
 
 -- What waits after a set was matched has fewer vertices, so that it is one of those before.
 pub wait_before : {t : ForestTables} {sets : List (ℕ × ℕ)} (left left2 : List (Option ℕ)) (k : ℕ) {c : ℕ}
@@ -263,9 +261,5 @@ sets_more {t} {b} {xs} high live has = record {
 
 -- No set below the vertices' number is one.
 pub sets_none : (t : ForestTables) (xs : List (ℕ × ℕ)) → length xs ≡ 0 → HasSets t (length t.hand) xs
-sets_none t [] none = record {
-  each = λ k d l. absurd (omega arith);
-  all = λ b high low live. absurd (omega arith);
-  counts = search (rules, count_below_none);
-}
+sets_none t [] none = search (rules, count_below_none)
 sets_none t (x ∷ xs) none = absurd (omega arith)

@@ -1,13 +1,13 @@
 -- Blossoms within each other: climbing from one, one comes past the other.
 use Rattle.std.proofs.Common.{rules, ◌≡◌, ◌≢◌, ℕ, zero, suc, ◌+◌, ◌-◌, ◌<◌, ◌≤◌, Bool, true, false, not, cond, eqb, ◌⊎◌}
 use Rattle.std.proofs.Common.{refl, sym, ◌∙◌, ap, inl, inr, arith, ◌*◌, length, get_or}
-use Rattle.std.proofs.lemmas.Bool.{cases_eq, cases_lt, eq-eqb, false_from_ne_true, or_left}
-use Rattle.sum_laws.proofs.Tests.{same_test}
+use Rattle.std.proofs.lemmas.Bool.{cases_eq, cases_lt, false_from_ne_true}
 use Rattle.def_forest.specs.{Forests.bool_number, Forests.walk, Forests.ring_sum, Tables.climbs, Tables.ForestTables}
 use Rattle.def_forest.specs.{Tables.forest_of, Tables.up_at, Tables.IsValidFor, Darts.AreDarts, Darts.darts_of}
 use Rattle.def_forest.specs.{Darts.other_dart, Valid.IsJoint, Valid.IsRing}
-use Rattle.forest_laws.proofs.{Walks.IsCircle, Walks.walk_fixed, Walks.walk_front, Walks.walk_sum, Grows.true_false}
-use Rattle.forest_laws.proofs.{Grows.far_low, Bounds.are_darts}
+use Rattle.forest_laws.proofs.Walks.{IsCircle, circle_from, listed_at, listed_closed, listed_place, walk_fixed}
+use Rattle.forest_laws.proofs.{Walks.walk_front, Walks.walk_sum, Grows.true_false, Grows.far_low, Bounds.are_darts}
+use Rattle.forest_laws.{specs.Walks.listed, proofs.Odds.part_used}
 use Rattle.qm_forest.proofs.Enclosed.{climbs_place, comes_by, rank_few, rank_passed, climbs_here}
 use Rattle.qm_forest.proofs.JoinedLists.{list_few, list_member}
 use Rattle.def_matching.specs.Matching.{WeightedGraph, IsSmallGraph}
@@ -52,13 +52,9 @@ module _ {n : ℕ} {up rank : ℕ → ℕ} (rising : IsRising n up rank) where
   rank_walk x zero = omega arith
   rank_walk x (suc k) = grind (arith, rank_walk x k, rises (walk up x k))
 
-  here : (k : ℕ) {c from : ℕ} → from ≡ c → climbs up k c from ≡ true
-  here zero {c} {from} e = eq-eqb from c e
-  here (suc k) {c} {from} e = or_left (eqb from c) (climbs up k c (up from)) (eq-eqb from c e)
-
   -- What one comes to one comes past, if there are steps enough.
   reach : (k : ℕ) {c : ℕ} (from j : ℕ) → walk up from j ≡ c → rank c ≤ rank from + k → climbs up k c from ≡ true
-  reach k from zero e low = here k e
+  reach k {c} from zero e low = rw (← e) (climbs_here up k from)
   reach zero from (suc i) e low = grind (arith, walk_front, rises from, rank_walk, walk_fixed)
   reach (suc k) {c} from (suc i) e low =
       let next = λ (more : rank c ≤ rank (up from) + k). reach k (up from) i (sym (walk_front up from i) ∙ e) more in
@@ -94,23 +90,8 @@ module _ {n : ℕ} {up rank : ℕ → ℕ} (rising : IsRising n up rank) where
       ≡ true → ⊥
   none_in_both w x y ex ey nx ny ne hx hy = search (rules, where_in, in_line, parts_apart)
 
-  -- What is within a set but the set is within a part of it.
-  pub in_part : (b : ℕ) {q : ℕ} (j : ℕ) → walk up b j ≡ q → b ≢ q → (r : ℕ) × (up r ≡ q) × (r ≢ q) × (i : ℕ)
-      × (walk up b i ≡ r)
-  in_part b zero e ne = absurd (ne e)
-  in_part b {q} (suc j) e ne = elim (cases_eq (walk up b j) q) [
-    | inl s ↦ in_part b j s ne
-    | inr off ↦ (walk up b j, e, off, j, refl)
-  ]
-
   -- Where two parts of one set are matched with each other, the edge leaves just the blossoms of one of them that have
   -- its end there, and all other blossoms of the two wait.
-  pub by_pair : (wx wy hu hv : Bool) → (wx ≡ true → (wy ≡ false) × (hv ≡ false))
-      → (wy ≡ true → (wx ≡ false) × (hu ≡ false)) → (wx ≡ false → wy ≡ false → hu ≡ hv)
-      → bool_number (cond hu (not hv) hv) + (cond wx (cond hu 0 1) 0 + cond wy (cond hv 0 1) 0)
-      ≡ bool_number wx + bool_number wy
-  by_pair wx wy hu hv first second none = grind arith
-
   module _ (x y : ℕ) {q : ℕ} (u v : ℕ) (ex : up x ≡ q) (ey : up y ≡ q) (nx : x ≢ q) (ny : y ≢ q) (ne : x ≢ y)
       (hu : in_it u x ≡ true) (hv : in_it v y ≡ true) (low_x : rank x ≤ n) (low_y : rank y ≤ n) where
     -- A blossom around one end that is not within its part is around the other end.
@@ -125,23 +106,16 @@ module _ {n : ℕ} {up rank : ℕ → ℕ} (rising : IsRising n up rank) where
     pub pair_law : (b : ℕ) → (in_it u b ≡ true → rank b ≤ n) → (in_it v b ≡ true → rank b ≤ n)
         → bool_number (cond (in_it u b) (not (in_it v b)) (in_it v b)) + (cond (in_it b x) (cond (in_it u b) 0 1) 0
         + cond (in_it b y) (cond (in_it v b) 0 1) 0) ≡ bool_number (in_it b x) + bool_number (in_it b y)
-    pair_law b low_u low_v = by_pair _ _ _ _ (λ on. (
-      false_from_ne_true (in_it b y) (λ o. none_in_both b x y ex ey nx ny ne on o),
-      false_from_ne_true (in_it v b) (λ o. none_in_both v x y ex ey nx ny ne (through v b x low_x o on) hv),
-    )) (λ on. (
-      false_from_ne_true (in_it b x) (λ o. none_in_both b x y ex ey nx ny ne o on),
-      false_from_ne_true (in_it u b) (λ o. none_in_both u x y ex ey nx ny ne hu (through u b y low_y o on)),
-    )) (λ ox oy. same_test _ _ (λ on. around_other u v x y b ex ey low_x hu hv ox (low_u on) on)
-        (λ on. around_other v u y x b ey ex low_y hv hu oy (low_v on) on))
+    pair_law b low_u low_v =
+        let first = around_other u v x y b ex ey low_x hu hv in let second = around_other v u y x b ey ex low_y hv hu in
+        let at_u = none_in_both u x y ex ey nx ny ne in let at_v = none_in_both v x y ex ey nx ny ne in
+        grind (arith, none_in_both b x y ex ey nx ny ne, through v b x low_x, through u b y low_y)
 
   -- From a part to its set: what waited there waits in the parts after it, or around the set.
   module _ {p : ℕ} (q v : ℕ) {c : ℕ} {many : ℕ} {after : ℕ → ℕ} {inside : ℕ → Bool}
       (circle : IsCircle after p many inside) (part : (x : ℕ) → inside x ≡ true → (up x ≡ q) × (x ≢ q))
       (parts : (x : ℕ) → up x ≡ q → x ≢ q → inside x ≡ true) (low : (x : ℕ) → inside x ≡ true → rank x ≤ n)
       (low_q : rank q ≤ n) (low_c : rank c ≤ n) (hv : in_it v p ≡ true) (j : ℕ) (hq : walk up q j ≡ c) where
-    abbrev pub rest_at : ℕ → ℕ → ℕ
-    rest_at p b = cond (in_it b p) 0 (cond (in_it b c) (cond (in_it v b) 0 1) 0)
-
     -- The parts after p, and how many of them hold a blossom.
     abbrev nth : ℕ → ℕ
     nth k = walk after (after p) k
@@ -163,13 +137,9 @@ module _ {n : ℕ} {up rank : ℕ → ℕ} (rising : IsRising n up rank) where
         (λ k l. ap bool_number (false_from_ne_true (in_it b (nth k)) (off k l)))
 
     apart : (i k : ℕ) → i < many - 1 → k < many - 1 → i ≢ k → nth i ≢ nth k
-    apart i k li lk ne same = grind (
-      arith,
-      circle.distinct (suc i) (suc k),
-      circle.distinct (suc k) (suc i),
-      walk_front after p i,
-      walk_front after p k,
-    )
+    apart i k li lk ne same =
+        let first = walk_front after p i in let second = walk_front after p k in
+        grind (arith, circle.distinct (suc i) (suc k), circle.distinct (suc k) (suc i))
 
     -- What lies in a part after p lies in no other.
     one_after : (b : ℕ) {r : ℕ} → up r ≡ q → r ≢ q → in_it b r ≡ true → r ≢ p → (k : ℕ) → k < many → walk after p k ≡ r
@@ -195,14 +165,15 @@ module _ {n : ℕ} {up rank : ℕ → ℕ} (rising : IsRising n up rank) where
               (through v b w.0 (low w.0 inside_r) o in_r) hv),
         )
 
-    pub climb_law : (b : ℕ) → rest_at p b ≡ others b + rest_at q b
+    pub climb_law : (b : ℕ) → cond (in_it b p) 0 (cond (in_it b c) (cond (in_it v b) 0 1) 0)
+        ≡ others b + cond (in_it b q) 0 (cond (in_it b c) (cond (in_it v b) 0 1) 0)
     climb_law b = climb_cases (in_it b p) (in_it b q) (in_it b c) (in_it v b) (others b) (λ on. (
       in_set b p p_part.0 on,
       none_after b (λ k l. none_in_both b p (nth k) p_part.0 (at_part k).0 p_part.1 (at_part k).1
           (λ e. circle.distinct 0 (suc k) (omega arith) (omega (arith, l)) (e ∙ sym (walk_front after p k))) on),
     )) (search (rules, none_after, in_set, at_part)) (λ off on. elim (cases_eq b q) [
       | inl e ↦ search (rules, none_after, where_in, at_part, rank_walk, in_set)
-      | inr ne ↦ inr (around b (in_part b (where_in b q on).0 (where_in b q on).1 ne) off on)
+      | inr ne ↦ inr (around b (comes_by up b (where_in b q on).0 (where_in b q on).1 ne) off on)
     ])
 
 -- What tied tables say of how blossoms lie in each other, and the two parts that a joint joins.
@@ -214,12 +185,8 @@ laminar {t} {hid} tied = record {
   rises = tied.nest.rises;
   low = λ x l used. list_few (tied.nest.members x l used);
   passed = λ b v l on. (omega (arith, rank_passed tied.nest v b l on, rank_few tied.nest v l));
-  own = λ b x l on. elim (cases_eq b x) [
-    | inl e ↦ e
-    | inr ne ↦ (let w = climbs_place _ _ x b on in
-        let y = comes_by _ b w.0 w.1 ne in
-        absurd (omega (arith, rw y.1 at (tied.nest.around y.0 (λ s. y.2 (sym s ∙ y.1))).0)))
-  ];
+  own = λ b x l on. (let w = climbs_place (up_at t.up) _ x b on in
+      grind (arith, cases_eq b x, comes_by (up_at t.up) b w.0 w.1, tied.nest.around));
   two = λ x l used more. (let list = tied.nest.members x l used in
       let first : 0 < get_or t.rank x 0 = omega arith in
       let differ = list.distinct 0 1 (omega arith) more in
@@ -248,25 +215,14 @@ module _ {t : ForestTables} (known : IsLaminar t) where
     pub another : (x w : ℕ) → length t.hand ≤ x → x < length t.up → get_or t.parts x 0 ≢ 0
         → (v : ℕ) × (v < length t.hand) × (v ≢ w) × ((forest_of t).holds x v ≡ true)
     another x w high low live =
-        let some = known.some (walk (forest_of t).nest.after ((forest_of t).nest.head x) 0) (ring.below 0) part_used in
+        let ring = valid.valid.nested.rings x (rw valid.vertices at high) live in
+        let head : IsInUse (length t.hand) t.parts (get_or t.head x 0) =
+        grind (arith, part_used are valid.valid.nested ring 0, valid.vertices) in
+        let some = known.some (get_or t.head x 0) (ring.below 0) head in
         let s = known.two x low (inr live) (omega (arith, some, ring.lower 0)) in
         elim (cases_eq s.0 w) [ inl e ↦ (s.1, s.3, (λ f. s.4 (e ∙ sym f)), s.6) | inr ne ↦ (s.0, s.2, ne, s.5) ]
-      where
-        ring : IsRing (darts_of g) (forest_of t) x
-        ring = valid.valid.nested.rings x (rw valid.vertices at high) live
 
-        part_used : IsInUse (length t.hand) t.parts (get_or t.head x 0)
-        part_used =
-            let inner : (forest_of t).nest.up (get_or t.head x 0) ≢ get_or t.head x 0 = search rules in
-            let joint = valid.valid.nested.joints (get_or t.head x 0) inner in
-            elim (cases_lt (get_or t.head x 0) (length t.hand)) [
-              | inl l ↦ inl l
-              | inr h ↦ inr (λ none. true_false joint.begins (valid.valid.nested.empty (get_or t.head x 0)
-                  ((darts_of g).near (get_or t.joint (get_or t.head x 0) 0)) (rw valid.vertices at h)
-                  (are.near_low (get_or t.joint (get_or t.head x 0) 0) joint.tight.low) none))
-            ]
-
-    -- A part and the next are joined.
+    -- The parts of a set, from one of them on round their ring; that one and the next are joined.
     module _ {x : ℕ} (inner : up_at t.up x ≢ x) where
       abbrev q : ℕ
       q = up_at t.up x
@@ -277,40 +233,49 @@ module _ {t : ForestTables} (known : IsLaminar t) where
       abbrev y : ℕ
       y = get_or t.after x 0
 
+      abbrev many : ℕ
+      many = get_or t.parts q 0
+
+      abbrev inside : ℕ → Bool
+      inside = listed (λ k. get_or t.after k 0) (get_or t.head q 0) many
+
       pub ring_around : IsRing (darts_of g) (forest_of t) q
       ring_around = let live = valid.valid.nested.live x inner in valid.valid.nested.rings q live.0 live.1
 
-      joint_is : IsJoint (darts_of g) (forest_of t) x
-      joint_is = valid.valid.nested.joints x inner
+      pub part : (r : ℕ) → inside r ≡ true → (up_at t.up r ≡ q) × (r ≢ q)
+      part r on =
+          let w = listed_place _ _ many r on in (
+            ap (up_at t.up) (sym w.2) ∙ ring_around.inside w.0,
+            (λ e. absurd (omega (arith, ring_around.lower w.0, ap (λ z. get_or t.rank z 0) (w.2 ∙ e)))),
+          )
 
-      x_place : (k : ℕ) × (k < get_or t.parts q 0) × (walk (λ i. get_or t.after i 0) (get_or t.head q 0) k ≡ x)
-      x_place = ring_around.all x refl (λ e. inner (sym e))
+      pub parts : (r : ℕ) → up_at t.up r ≡ q → r ≢ q → inside r ≡ true
+      parts r e ne = let w = ring_around.all r e ne in
+          rw w.2 at (listed_at (λ k. get_or t.after k 0) (get_or t.head q 0) many w.0 w.1)
 
-      pub next_around : up_at t.up y ≡ q
-      next_around = ap (λ z. up_at t.up (get_or t.after z 0)) (sym x_place.2) ∙ ring_around.inside (suc x_place.0)
+      pub inner_part : (r : ℕ) → inside r ≡ true → up_at t.up r ≢ r
+      inner_part r on e = (part r on).1 (sym e ∙ (part r on).0)
 
-      part_other : {z : ℕ} → up_at t.up z ≡ q → (k : ℕ) → walk (λ i. get_or t.after i 0) (get_or t.head q 0) k ≡ z
-          → z ≢ q
-      part_other e k at s = absurd (omega (arith, ring_around.lower k, ap (λ w. get_or t.rank w 0) (at ∙ s)))
+      pub circle : IsCircle (λ k. get_or t.after k 0) x many inside
+      circle = circle_from _ _ many inside (record {
+        some = omega (arith, ring_around.odd);
+        closed = ring_around.closed;
+        distinct = ring_around.distinct;
+        marked = listed_closed _ many (omega (arith, ring_around.odd)) ring_around.closed;
+        all = listed_place _ _ many;
+      }) x (parts x refl (λ e. inner (sym e)))
 
-      pub next_other : y ≢ q
-      next_other = part_other next_around (suc x_place.0) (ap (λ z. get_or t.after z 0) x_place.2)
+      low_in : (r : ℕ) → inside r ≡ true → r < length t.up
+      low_in r on = let w = listed_place _ _ many r on in rw w.2 at (ring_around.below w.0)
 
-      pub x_low : x < length t.up
-      x_low = rw x_place.2 at (ring_around.below x_place.0)
-
-      pub y_low : y < length t.up
-      y_low = rw (ap (λ z. get_or t.after z 0) x_place.2) at (ring_around.below (suc x_place.0))
+      next_part : (up_at t.up y ≡ q) × (y ≢ q)
+      next_part = part y (circle.marked (suc zero))
 
       differ : x ≢ y
-      differ e =
-          let same : walk (λ i. get_or t.after i 0) (get_or t.head q 0) x_place.0 ≡ walk (λ i. get_or t.after i 0)
-          (get_or t.head q 0) (suc x_place.0) = x_place.2 ∙ (e ∙ sym (ap (λ z. get_or t.after z 0) x_place.2)) in
-          elim (cases_eq (suc x_place.0) (get_or t.parts q 0)) [
-            | inr l ↦ ring_around.distinct x_place.0 (suc x_place.0) (omega arith) (omega (arith, l, x_place.1)) same
-            | inl at ↦ ring_around.distinct 0 x_place.0 (omega (arith, at, ring_around.odd, ring_around.some)) x_place.1
-                (sym ring_around.closed ∙ (ap (walk (λ i. get_or t.after i 0) (get_or t.head q 0)) (sym at) ∙ sym same))
-          ]
+      differ = circle.distinct zero (suc zero) (omega arith) (omega (arith, ring_around.odd, ring_around.some))
+
+      joint_is : IsJoint (darts_of g) (forest_of t) x
+      joint_is = valid.valid.nested.joints x inner
 
       d_low : d < 2 * length g.edges
       d_low = joint_is.tight.low
@@ -330,18 +295,18 @@ module _ {t : ForestTables} (known : IsLaminar t) where
       ring_pairing = record {
         dart = rw valid.darts d_low;
         small = omega (arith, d_low, valid.small.edges);
-        low_x = x_low;
-        low_y = y_low;
+        low_x = low_in x (circle.marked zero);
+        low_y = low_in y (circle.marked (suc zero));
         other = differ;
         apart = λ e. none_in_both (rising known) _ x y
-            refl next_around (λ s. inner (sym s)) next_other differ near_ok.1 (rw e far_ok.1);
+            refl next_part.0 (λ s. inner (sym s)) next_part.1 differ near_ok.1 (rw e far_ok.1);
         near_low = near_ok.0;
         far_low = far_ok.0;
         near_held = near_ok.1;
         far_held = far_ok.1;
         live_x = used x _ near_ok.0 near_ok.1;
         live_y = used y _ far_ok.0 far_ok.1;
-        law = λ b l. pair_law (rising known) x y _ _ refl next_around (λ s. inner (sym s)) next_other differ near_ok.1
+        law = λ b l. pair_law (rising known) x y _ _ refl next_part.0 (λ s. inner (sym s)) next_part.1 differ near_ok.1
             far_ok.1 (known.passed x (near_at t d) near_ok.0 near_ok.1) (known.passed y (far_at t d) far_ok.0 far_ok.1)
             b (λ on. known.passed b (near_at t d) near_ok.0 on) (λ on. known.passed b (far_at t d) far_ok.0 on);
         tight = λ h valid'. (valid'.valid.nested.joints x inner).tight;

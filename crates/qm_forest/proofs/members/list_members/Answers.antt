@@ -1,4 +1,4 @@
-use Rattle.std.proofs.Common.{rules, add-one, ◌≡◌, ◌+◌, ◌<◌, ◌++◌, ◌∙◌, [], ◌∷◌, length, arith}
+use Rattle.std.proofs.Common.{rules, add-one, ◌≡◌, ◌<◌, ◌++◌, ◌∙◌, [], ◌∷◌, length, arith}
 use Rattle.std.proofs.{lemmas.Grind.common_steps, lemmas.List.get_or_read}
 use Rattle.qm_forest.proofs.Chosens.{copied_more}
 

@@ -1,5 +1,5 @@
 use Rattle.std.proofs.Common.{rules, ◌∙◌, ap, refl, get_or}
-use Rattle.def_forest.specs.{Forests.Forest, Tables.forest_of}
+use Rattle.def_forest.specs.{Tables.forest_of}
 use Rattle.qm_forest.proofs.OnWays.{one_more_outside, same_nest}
 
 pub loop-k-preserved : Rattle.qm_forest.proofs.forest.Forest.end_search.Goals.loop-k-preserved

@@ -1,5 +1,5 @@
 use Rattle.std.proofs.Common.{rules, length, ◌∙◌, ap}
-use Rattle.qm_forest.proofs.{Openings.CanOpen, Openings.partable, Expandings.expanded}
+use Rattle.qm_forest.proofs.{Inners.CanOpen, Inners.partable, Expandings.expanded}
 use Rattle.qm_forest.proofs.Expandings.{Expanding, matched, mate_low, link_low, vertex_low, places_low, reached3, tops3}
 use Rattle.qm_forest.proofs.forest.Forest.expand.Goals.{After-parts-many, After-outermost-last}
 use Rattle.qm_forest.proofs.forest.Forest.expand.Goals as goal

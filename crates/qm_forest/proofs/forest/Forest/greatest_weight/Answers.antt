@@ -1,5 +1,4 @@
-use Rattle.std.proofs.Common.{rules, inl, inr, arith}
-use Rattle.std.proofs.lemmas.Bool.{cases_lt}
+use Rattle.std.proofs.{lemmas.Bool.cases_lt, Common.rules, Common.inl, Common.inr, Common.arith}
 
 pub loop-b-preserved : Rattle.qm_forest.proofs.forest.Forest.greatest_weight.Goals.loop-b-preserved
 loop-b-preserved c = record {

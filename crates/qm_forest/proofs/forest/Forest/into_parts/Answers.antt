@@ -25,14 +25,14 @@ returns c =
     let chosen = c.write_down.ensures.chosen in
     let sound = still _ same c.requires.valid.1 c.requires.valid.2 in
     record {
-      yes = λ g small valid. says_yes _ known _ _ down (still _ same small valid);
+      yes = λ g small valid. says_yes known down (still _ same small valid);
       dual = subst (λ (t : ForestTables). IsDualOf (length t.hand) (forest_of t) (dual c.write_down.result.1)) same
-          (dual_is _ known _ _ down sound);
+          (dual_is known down sound);
       few = subst (λ (t : ForestTables). 2 * length (dual c.write_down.result.1).z ≤ length t.hand) same
-          (few_is _ known _ _ down);
+          (few_is known down);
       perfect = λ g small valid matched. (let sound = still _ same small valid in
           let it = perfect known sound chosen.1.room.marks chosen.2 chosen.1.done chosen.1.ended
           (subst (λ (t : ForestTables). (v : ℕ) → v < g.n → (forest_of t).mate ((forest_of t).out v) ≢ None) (sym same)
           matched) in
-          (it.0, (dual_is _ known _ _ down sound).sum ∙ it.1));
+          (it.0, (dual_is known down sound).sum ∙ it.1));
     }

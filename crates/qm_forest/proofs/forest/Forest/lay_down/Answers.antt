@@ -1,6 +1,6 @@
 use Rattle.std.proofs.Common.{rules, add-one, ◌∙◌, ap, arith}
 use Rattle.def_forest.specs.{Darts.darts_of, Darts.far, Tables.forest_of, Ways.dart_or}
-use Rattle.qm_forest.proofs.Increases.{IsLaidPlace, laid_place, laid_more_down, alike_more}
+use Rattle.qm_forest.proofs.Increases.{IsLaidPlace, laid_place, laid_more, alike_more}
 use Rattle.qm_forest.proofs.forest.Forest.lay_down.Goals.{After-rise_from-d}
 use Rattle.qm_forest.proofs.forest.Forest.lay_down.Goals as goal
 
@@ -22,7 +22,8 @@ loop-preserved c =
     ∙ (ap (λ d. (forest_of c.loop.self).out (far (darts_of c.args.g.now.graph) d)) c.rise_from-d.ensures ∙ it.next) in
     record {
       here = rw (add-one _) next;
-      seen = rw (add-one _) (laid_more_down (darts_of c.args.g.now.graph) _ c.args.a _ c.loop.invariant.seen
-          c.lay.ensures.seen c.loop.invariant.here next c.twin.ensures (c.rise_from-d.ensures ∙ ap dart_or it.same));
+      seen = rw (add-one _) (laid_more _ _ _ _ c.loop.counter c.loop.invariant.seen c.lay.ensures.seen next
+          c.loop.invariant.here (c.twin.ensures
+          ∙ ap (darts_of c.args.g.now.graph).twin (c.rise_from-d.ensures ∙ ap dart_or it.same)));
       same = alike_more c.args.self.now _ _ c.loop.invariant.same c.lay.ensures.same;
     }

@@ -15,8 +15,7 @@ pub loop-init : goal.loop-init
 loop-init c = record {
   here = c.next-x.ensures;
   room = c.requires.room;
-  done = λ rest due r. ring_begun c.requires.room.laminar c.requires.room.sound.1 c.requires.inner rest 0
-      c.next-x.ensures refl r;
+  done = λ rest due r. ring_begun c.requires.room c.requires.inner rest 0 c.next-x.ensures refl r;
   entries = λ b v e. inl e;
 }
 
@@ -32,17 +31,15 @@ loop-preserved c =
     record {
       here = search rules;
       room = c.pair.ensures.room;
-      done = λ rest due r. rw c.next-x-in-loop.ensures (ring_turn c.requires.room.laminar c.requires.room.sound.1
-          c.requires.inner _ _ _ c.loop.invariant.here low c.next-y.ensures
-          c.joint-d.ensures refl c.loop.invariant.room.marks c.loop.invariant.room.left_out c.pair.ensures.marks
+      done = λ rest due r. rw c.next-x-in-loop.ensures (ring_turn c.loop.invariant.room c.requires.inner _ _ _
+          c.loop.invariant.here low c.next-y.ensures c.joint-d.ensures refl c.pair.ensures.marks
           c.pair.ensures.left_out (c.loop.invariant.done rest due r));
-      entries = λ b v e. elim (turn_entries c.requires.room.laminar c.requires.room.sound.1 c.requires.inner _ _ _ b v
-          c.loop.invariant.here c.next-y.ensures c.loop.invariant.room.left_out c.pair.ensures.left_out it.low_x
-          it.low_y e) [ inl x ↦ c.loop.invariant.entries b v x | inr y ↦ inr y ];
+      entries = λ b v e. elim (turn_entries c.loop.invariant.room c.requires.inner _ _ b v c.loop.invariant.here
+          c.next-y.ensures c.pair.ensures.left_out it e) [ inl x ↦ c.loop.invariant.entries b v x | inr y ↦ inr y ];
     }
 
 pub returns-clause-done : goal.returns-clause-done
 returns-clause-done c rest due r =
     let parts = parts_is (goal.at.returns-clause-done c).After-parts-end in
-    ring_ended c.requires.room.laminar c.requires.room.sound.1 c.requires.inner rest c.loop.counter c.loop.x
+    ring_ended c.loop.invariant.room c.requires.inner rest c.loop.counter c.loop.x
     (omega (arith, c.loop-test.false, c.loop.auto.counter-end, parts)) (c.loop.invariant.done rest due r)

@@ -2,7 +2,7 @@ use Rattle.std.proofs.Common.{rules, ◌≡◌, length, Some, ◌∙◌, sym, ap
 use Rattle.def_forest.specs.{Darts.darts_of, Darts.far, Forests.Forest, Forests.set_at, Tables.forest_of}
 use Rattle.qm_forest.{specs.Ties.mated, specs.Ties.remated, proofs.forest.Forest.rematch.Goals.After-link-up}
 use Rattle.qm_forest.proofs.OnWays.{way_begins, way_goes_on, way_shorter, way_low, way_ends, old_low, up_low}
-use Rattle.qm_forest.proofs.OnWays.{remated_more, out_same, link_same, seen_own}
+use Rattle.qm_forest.proofs.OnWays.{remated_more}
 use Rattle.qm_forest.proofs.forest.Forest.rematch.Goals as goal
 
 pub loop-old-init : goal.loop-old-init
@@ -15,10 +15,11 @@ changed c = remated_more (forest_of c.args.self.now) _ _ _ c.loop-old.invariant.
 
 inner_is : (c : After-link-up) → c.far_blossom-inner.result
     ≡ (forest_of c.args.self.now).out (far (darts_of c.args.g.now.graph) c.in-Some.old)
-inner_is c = c.far_blossom-inner.ensures.value ∙ out_same (forest_of c.args.self.now) _ _ (changed c)
+inner_is c = c.far_blossom-inner.ensures.value
+    ∙ ap (λ (f : Forest). f.out (far (darts_of c.args.g.now.graph) c.in-Some.old)) (changed c)
 
 up_is : (c : After-link-up) → c.link-up.result ≡ (forest_of c.args.self.now).link c.far_blossom-inner.result
-up_is c = c.link-up.ensures ∙ link_same (forest_of c.args.self.now) _ _ (changed c)
+up_is c = c.link-up.ensures ∙ ap (λ (f : Forest). f.link c.far_blossom-inner.result) (changed c)
 
 -- So is the outer blossom on the other side of that one.
 changed_twice : (c : After-link-up) {f : Forest} → f ≡ mated (forest_of c.set_mate-in-Some.new.self)
@@ -49,7 +50,7 @@ loop-old-smaller c =
     let at = (goal.at.loop-old-smaller c).After-link-up in
     let seen = changed_twice at c.set_mate-in-Some-2.ensures.seen in
     way_shorter c.loop-old.invariant.way c.in-Some.old (sym c.mate.ensures ∙ c.in-Some.is) (inner_is at) (up_is at)
-    (c.far_blossom-at.ensures.value ∙ out_same (forest_of c.args.self.now) _ _ seen)
+    (search rules)
 
 pub loop-old-preserved : goal.loop-old-preserved
 loop-old-preserved c =
@@ -58,7 +59,7 @@ loop-old-preserved c =
     record {
       way = way_goes_on c.loop-old.invariant.way c.in-Some.old (sym c.mate.ensures ∙ c.in-Some.is) (inner_is at)
           (up_is at) (search rules) c.twin-next.ensures (ap (λ (f : Forest). f.mate) seen);
-      seen = seen_own c.args.self.now c.set_mate-in-Some-2.new.self _ seen;
+      seen = seen ∙ ap (remated (forest_of c.args.self.now)) (sym (ap (λ (f : Forest). f.mate) seen));
       same = search rules;
     }
 

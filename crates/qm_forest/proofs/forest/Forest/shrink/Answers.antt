@@ -28,8 +28,6 @@ close_ring-requires c = search (rules, closing, tops_laid, free_ring)
 
 pub returns : goal.returns
 returns c =
-    let done = c.close_ring.ensures in
     let it = shrunk_tables (closing (goal.at.returns c).After-fork-fork) c.lay_ring.ensures.seen c.lay_ring.ensures.same
-    done.gone done.same c.close_ring.new.self c.mate-mate.ensures done.gathered done.vertex done.is done.holds done.done
-    done.root done.hand done.fixed in
+    c.mate-mate.ensures c.close_ring.ensures in
     record { changed = it.0; valid = it.1 }

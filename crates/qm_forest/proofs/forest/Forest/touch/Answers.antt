@@ -1,5 +1,6 @@
-use Rattle.std.proofs.Common.{◌≡◌, ◌<◌, length, ◌∙◌, false, get_or, arith}
-use Rattle.qm_forest.proofs.TiedWrites.{mark_read, trail_room, tied_touched}
+use Rattle.std.proofs.Common.{◌≡◌, ◌<◌, length, sym, ◌∙◌, false, get_or, arith}
+use Rattle.{std.proofs.lemmas.List.get_or_read, qm_forest.proofs.TiedWrites.trail_room}
+use Rattle.{qm_forest.proofs.TiedWrites.tied_touched}
 use Rattle.{std.proofs.lemmas.Grind.common_steps, qm_forest.proofs.forest.Forest.touch.Goals.After-index}
 use Rattle.qm_forest.proofs.forest.Forest.touch.Goals as goal
 
@@ -7,7 +8,7 @@ low : (c : After-index) → c.args.v < length c.self.inside.handles.hand.items
 low c = rw (← c.self.view_is) at c.requires
 
 mark_is : (c : After-index) → get_or c.self.inside.trail.touched.items c.args.v false ≡ c.index.result.now
-mark_is c = mark_read _ c.args.v false (rw c.self.invariant.sizes.touched (low c)) c.index.ensures
+mark_is c = sym (get_or_read _ c.args.v _ (rw c.self.invariant.sizes.touched (low c)) c.index.ensures false)
 
 pub unwrap-requires : goal.unwrap-requires
 unwrap-requires c =
