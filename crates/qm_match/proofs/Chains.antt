@@ -1,4 +1,5 @@
 -- Chains of darts.
+use Rattle.std.proofs.lemmas.Grind.{common_steps}
 use Rattle.std.proofs.Common.{◌≡◌, ◌≢◌, ℕ, suc, ◌+◌, ◌*◌, ◌<◌, ◌≤◌, ◌||◌, eqb, List, length, get_or, ◌⊎◌, refl, sym}
 use Rattle.std.proofs.Common.{◌∙◌, ap, subst, inl, inr, arith, rules, ◌/◌, ◌-◌, Bool, Some, pos, to_z, w64}
 use Rattle.std.proofs.{Math.ListN.set, lemmas.Bool.cases_eq, lemmas.Bool.eq-eqb, lemmas.Bool.eqb-true}
@@ -77,20 +78,14 @@ pub passed_more : (next : List ℕ) (P : ℕ → Type 0) {Q : ℕ → Type 0} {f
     ≡ get_or next d 0 → ((x : ℕ) → P x → Q x) → Q d → HoldsPassed next from entry P → HoldsPassed next from rest Q
 passed_more next P {d = d} is rest_is still here done x on = elim (done x on) [
   | inl held ↦ inl (still x held)
-  | inr more ↦ elim (on_rest next d x (rw is at more)) [
-    | inl e ↦ inl (rw (← e) here)
-    | inr rest ↦ inr (rw rest_is rest)
-  ]
+  | inr more ↦ elim (on_rest _ d x (rw is at more)) [ inl e ↦ inl (rw (← e) here) | inr rest ↦ inr (rw rest_is rest) ]
 ]
 
 -- Where the chain of a vertex ends, all darts there are passed.
 pub passed_all : {g : WeightedGraph} {first next : List ℕ} {v entry : ℕ} (P : ℕ → Type 0) → AreFans g first next
     → entry ≡ 0 → HoldsPassed next (get_or first v 0) entry P → (d : ℕ) → d < 2 * length g.edges
     → (darts_of g).near d ≡ v → P d
-passed_all {next = next} P fans none done d l near = elim (done d (rw near at (fans.all d l))) [
-  | inl held ↦ held
-  | inr rest ↦ absurd (on_none next d (rw none at rest))
-]
+passed_all {next = next} P fans none done d l near = grind (arith, done d, fans.all d l, on_none next d)
 
 -- What mending leaves.
 
@@ -98,15 +93,7 @@ module _ (g : WeightedGraph) (f : Forest) (risen : ℕ) where
   -- One leaf is mended.
   pub mended_one : {keys new : List ℕ} (leaf : ℕ) → leaf < length keys → new ≡ set keys leaf (true_key g f risen leaf)
       → IsMended g f risen keys new
-  mended_one {keys} leaf l is = record {
-    size = rw is (length-set keys leaf (true_key g f risen leaf));
-    each = λ k. grind (
-      arith,
-      cases_eq k leaf,
-      get_or-set_same keys leaf (true_key g f risen leaf) 0 l,
-      get_or-set_other keys leaf k (true_key g f risen leaf) 0,
-    );
-  }
+  mended_one {keys} leaf l is = grind (arith, common_steps, length-set keys leaf (true_key g f risen leaf))
 
   -- More and more are.
   pub mended_on : {a b c : List ℕ} → IsMended g f risen a b → IsMended g f risen b c → IsMended g f risen a c
@@ -126,13 +113,11 @@ module _ (g : WeightedGraph) (f : Forest) (risen : ℕ) where
       → HoldsPassed next (get_or first v 0) entry (λ d. get_or keys (d / 2) 0 ≡ true_key g f risen (d / 2))
       → AreRightAt g f risen keys (λ w. eqb w v)
   vertex_right keys v fans none done e l at =
-      let right : (d : ℕ) → d < 2 * length g.edges → d / 2 ≡ e → (darts_of g).near d ≡ v
-      → get_or keys e 0 ≡ true_key g f risen e = λ d ld half near.
-      rw half at (passed_all _ fans none done d ld near) in
+      let right : (d : ℕ) → d < 2 * length g.edges → d / 2 ≡ e → (darts_of g).near d ≡ v → get_or keys e 0 ≡ true_key g
+      f risen e = λ d ld half near. rw half at (passed_all _ fans none done d ld near) in
       elim at [
-        | inl on ↦ right (2 * e) (omega arith) (omega arith) (dart_near g e ∙ eqb-true (edge_at g e).u v on)
-        | inr on ↦ right (2 * e + 1) (omega arith) (omega arith)
-            (near_odd g (2 * e + 1) e refl ∙ eqb-true (edge_at g e).v v on)
+        | inl on ↦ grind (arith, common_steps, right (2 * e), dart_near g e)
+        | inr on ↦ grind (arith, common_steps, right (2 * e + 1), near_odd g (2 * e + 1) e)
       ]
 
 -- Marks and keys that are made right.
@@ -147,9 +132,8 @@ stays_fresh {g} {old} {new} {b} is fresh =
 -- More and more is made right.
 pub refreshed_on : {g : WeightedGraph} {a b d : Search} → IsRefreshed g a b → IsRefreshed g b d → IsRefreshed g a d
 refreshed_on {g} {a} {b} {d} p q =
-    let mended = rw (p.forest, p.risen) at q.mended in
     let marked = rw p.forest at q.marked in
-    search (rules, mended_on, marked)
+    search (rules, marked)
 
 -- What may be made right may still be.
 pub may_later : {g : WeightedGraph} {old new : Search} {b : ℕ} → IsRefreshed g old new → MayRefresh g old b
@@ -217,11 +201,9 @@ module _ {g : WeightedGraph} {s : Search} {key : ℕ} (next : IsNext g s key) wh
     -- The search after the shift.
     pub shifted_way : IsValidFor g t → IsUnderWay g (record s { forest = t; risen = key })
     shifted_way valid =
-        let (low, marked, range) = subst (λ (f : Forest). AreLow g f key s.tour × AreMarked f s.inner.items
-        × IsInRange g.n s.first f key) (sym is)
-        (λ k l. omega (arith, shift_keys k l, next.way.low k l), next.way.marked, shift_range) in
-        let tree : (r : ℕ) × (t.root ≡ Some r) = (next.way.tree.0, root_is ∙ next.way.tree.1) in
-        assumption (ap (λ (f : Forest). f.size) is ∙ next.way.made.size)
+        let (low, marked, range) = subst (λ (f : Forest). AreLow g f key s.tour × AreMarked f s.inner.items × IsInRange
+        g.n s.first f key) (sym is) (λ k l. omega (arith, shift_keys k l), next.way.marked, shift_range) in
+        grind arith
 
     -- It goes on from the same vertex.
     pub shifted_on : GoesOn g.n s.forest t
@@ -233,9 +215,7 @@ pub mended_way : {g : WeightedGraph} {s : Search} (leaf : ℕ) → IsUnderWay g 
     → IsUnderWay g (record s { tour = set s.tour leaf (true_key g (forest_of s.forest) s.risen leaf) })
 mended_way {g} {s} leaf way l =
     let mended = mended_one g (forest_of s.forest) s.risen leaf l refl in
-    let low : AreLow g (forest_of s.forest) s.risen (set s.tour leaf (true_key g (forest_of s.forest) s.risen leaf)) =
-    search rules in
-    assumption (mended.size ∙ way.made.leaves)
+    search rules
 
 -- A step is neither loose nor idle.
 pub neither : (k : EdgeKind) → IsStep k → (k ≢ Loose) × (k ≢ Idle)

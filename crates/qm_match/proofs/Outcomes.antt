@@ -24,15 +24,13 @@ use Rattle.{qm_forest.proofs.Chosens.increasing_more, qm_initial.specs.declared.
 -- There are no more increasing numbers than numbers in between.
 pub increasing_few : (low high : ℕ) (m : List ℕ) → IsIncreasing low high m → length m ≤ high - low
 increasing_few low high [] increasing = omega arith
-increasing_few low high (k ∷ ks) increasing =
-    omega (arith, increasing.0, increasing.1, increasing_few (k + 1) high ks increasing.2)
+increasing_few low high (k ∷ ks) increasing = search (rules, increasing_few (k + 1) high ks increasing.2)
 
 -- One edge more.
 pub cost_take : (g : WeightedGraph) (m : List ℕ) (i : ℕ) → i < length m → matching_cost g (take (i + 1) m)
     ≡ matching_cost g (take i m) +ℤ (edge_at g (slice_index m i)).cost
 cost_take g m i l =
-    let sum = total_append (λ (e : WEdge). e.cost) (map (edge_at g) (take i m)) (edge_at g (get_or m i 0) ∷ []) in
-    rw (take_more m i 0 l, map-append (edge_at g) (take i m) (get_or m i 0 ∷ [])) (omega (arith, ints))
+    search (rules, total_append, take_more m i 0 l, map-append (edge_at g) (take i m) (get_or m i 0 ∷ []))
 
 -- Edges that are looked at one after another.
 
@@ -50,8 +48,7 @@ module _ (g : WeightedGraph) (xs : List ℕ) (k : ℕ) (low : k < length xs) whe
 
   pub counts_on : (v : ℕ) → count (ends_at v) (map (edge_at g) (take (k + 1) xs))
       ≡ count (ends_at v) (map (edge_at g) (take k xs)) + ends_at v (edge_at g (get_or xs k 0))
-  counts_on v = rw (take_more xs k 0 low, map-append (edge_at g) (take k xs) (get_or xs k 0 ∷ []))
-      (search (rules, count_append))
+  counts_on v = rw (take_more xs k 0 low, map-append _ _ _) (search (rules, count_append))
 
 -- What a match begins with, and what has come of it.
 
@@ -60,16 +57,14 @@ pub increasing_low : (low bound : ℕ) (xs : List ℕ) → IsIncreasing low boun
     → get_or xs k 0 < bound
 increasing_low low bound [] increasing k l = absurd (omega (arith, l))
 increasing_low low bound (x ∷ xs) increasing zero l = increasing.1
-increasing_low low bound (x ∷ xs) increasing (suc k) l =
-    increasing_low (x + 1) bound xs increasing.2 k (omega (arith, l))
+increasing_low low bound (x ∷ xs) increasing (suc k) l = grind (arith, increasing_low (x + 1) bound xs increasing.2 k)
 
 pub one_of : (n x : ℕ) → 1 ≤ n → x ≤ n * x
 one_of n x l = omega (arith, mul-le-mul_right x l)
 
 -- Costs that are cheap are small.
 pub cheap_costs : {g : WeightedGraph} → IsGraph g → IsCheap g → AreCostsBelow g (2 ^ 60)
-cheap_costs {g} lawful cheap e l =
-    omega (arith, one_of g.n (unsigned_abs (edge_at g e).cost) (omega (arith, lawful.left e l)), cheap e l)
+cheap_costs {g} lawful cheap e l = search rules
 
 -- The usual first weights may be the first.
 pub raised_first : (g : WeightedGraph) (y : List ℤ) → IsCheap g
@@ -152,9 +147,7 @@ pub run_bounded : (g : WeightedGraph) {s : Search} (end : Search) {d : DualLists
     → (first most : ℕ) → ((b : ℕ) → unsigned_abs ((forest_of s.forest).weight b) ≤ first)
     → AreAtMost (2 * (g.n * end.first) + g.n * most) d → AreAtMost (2 * (g.n * first) + g.n * most) d
 run_bounded g {s} end ready same first most each are =
-    let low : end.first ≤ first = elim ready.attained [ inl none ↦ omega arith | inr w ↦ omega (arith, w.1, each w.0) ]
-    in
-    at_most_more (2 * (g.n * first) + g.n * most) (omega (arith, mul-le-mul_left g.n low)) are
+    let low : end.first ≤ first = grind arith in search (rules, mul-le-mul_left)
 
 -- Searches that are about to begin, and edges that are matched before.
 
@@ -162,36 +155,23 @@ run_bounded g {s} end ready same first most each are =
 pub ready_idle : {g : WeightedGraph} {s : Search} → IsSmallGraph g → IsCheap g → HasPerfect g → IsReady s
     → IsMadeFor g s.forest → IsIdle g s
 ready_idle {g} {s} small cheap perfect ready for =
-    let halves = ap (λ n. n / 2) for.valid.vertices in
-    let limits : (g.n * s.first ≤ first_limit) × (s.first ≤ first_limit) = elim ready.attained [
-      | inl none ↦ (rw none (omega arith), omega arith)
-      | inr w ↦
-          let limit = rw w.1 at (for.small cheap w.0) in
-          (limit, grind (arith, ints, w.1, one_of g.n s.first, for.sets w.0))
-    ] in
+    let limits : (g.n * s.first ≤ first_limit) × (s.first ≤ first_limit) = grind (arith, one_of g.n s.first) in
     let (limit, low) = limits in
     let fans : AreFans g s.fans.first.items s.fans.next.items = record {
       vertices = ready.vertices ∙ for.valid.vertices;
       darts = ready.darts ∙ for.valid.darts;
-      firsts = λ v. omega (arith, ready.firsts v, for.valid.darts);
+      firsts = λ v. omega (arith, for.valid.darts);
       nexts = ready.nexts;
-      all = λ d l. rw (← for.valid.ends d l) (ready.all d (omega (arith, for.valid.darts)));
+      all = λ d l. rw (← for.valid.ends d l) (ready.all d (omega arith));
     } in
     let made : IsMade g s = search rules in
-    let range : IsInRange g.n s.first (forest_of s.forest) s.risen = rw ready.risen (range_begun g.n s.first
-    (forest_of s.forest) for.size for.sets
-    (λ b. grind (arith, ints, cases_lt b (length s.forest.up), ready.above b, for.sets b, for.size))) in
+    let range : IsInRange g.n s.first (forest_of s.forest) s.risen = grind (
+      arith,
+      range_begun g.n s.first (forest_of s.forest) for.size for.sets,
+    ) in
     assumption
-
-augments : (slack : ℤ) {a b : Label} (ma : Option ℕ) {mb : Option ℕ} (same : Bool) → unsigned_abs slack ≡ 0 → a ≡ Outer
-    → b ≡ Outside → mb ≡ None → cond (int_lt (pos 0) slack) Loose (kind_by a b ma mb same) ≡ Augment
-augments slack ma same tight a_is b_is none = grind (arith, ints)
 
 -- A free edge may be matched once its one end is the root.
 pub free_augments : {g : WeightedGraph} {f : Forest} {e : ℕ} → IsValid (darts_of g) f None → IsFreeEdge g f e
     → edge_kind g (rooted f (f.out (edge_at g e).u)) e ≡ Augment
-free_augments {g} {f} {e} valid free =
-    let u = f.out (edge_at g e).u in
-    let v = f.out (edge_at g e).v in
-    augments (slack_of g f e) (f.mate u) (eqb u v) free.tight (set_here f.label u Outer)
-    (set_there f.label u v Outer (λ same. free.apart (sym same)) ∙ valid.no_tree refl v) free.right
+free_augments {g} {f} {e} valid free = search rules

@@ -40,8 +40,7 @@ module _ {g : WeightedGraph} (lawful : IsGraph g) {most : ℕ} {y : List ℤ} (h
 
   feasible : (e : ℕ) → e < length g.edges → HasRoom g raised e
   feasible e l = elim (cases_eq (edge_at g e).u v) [
-    | inl here ↦ at_dart (2 * e) (omega arith) (omega arith) (dart_near g e) (dart_far g e) here
-        (λ s. lawful.apart e l (sym s))
+    | inl here ↦ search (rules, at_dart (2 * e), dart_near g e, dart_far g e, lawful.apart e l)
     | inr off ↦ elim (cases_eq (edge_at g e).v v) [
       | inl here ↦ let turned = at_dart (2 * e + 1) {e = e} (omega arith) (omega arith) (near_odd g (2 * e + 1) e refl)
           (odd_far g e) here (lawful.apart e l) in omega (arith, ints)

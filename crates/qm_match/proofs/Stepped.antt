@@ -31,12 +31,7 @@ made_after t made size = assumption (size ∙ made.size)
 -- Keys may be mended at the blossom of a vertex.
 pub may_vertex : {g : WeightedGraph} {s : Search} (v : ℕ) {b : ℕ} → IsMade g s → IsValidFor g s.forest → v < g.n
     → (forest_of s.forest).out v ≡ b → MayRefresh g s b
-may_vertex {g} {s} v made valid l e = rw (← e) (record {
-  made = made;
-  valid = valid;
-  low = valid.valid.outermost.out_low v l;
-  used = grind (arith, held_out g valid.valid v l, valid.valid.nested.empty ((forest_of s.forest).out v) v);
-})
+may_vertex {g} {s} v made valid l e = search (rules, held_out g valid.valid v l)
 
 -- The parts of a set.
 
@@ -58,8 +53,7 @@ module _ {g : WeightedGraph} {old : Search} {b : ℕ} (is : IsSetIn g old b) whe
   ring = is.valid.valid.nested.rings b is.set is.live
 
   part_in_use : (k : ℕ) → (part_of old.forest b k < g.n) ⊎ (get_or old.forest.parts (part_of old.forest b k) 0 ≢ 0)
-  part_in_use k = elim (part_used (are_darts is.made.small.lawful) is.valid.valid.nested ring k)
-      [ inl l ↦ inl l | inr w ↦ inr w.1 ]
+  part_in_use k = grind (arith, part_used (are_darts is.made.small.lawful) is.valid.valid.nested ring k)
 
   -- Keys may be mended at a part while only other tables changed.
   pub may_part : {s : Search} (k : ℕ) {p : ℕ} → IsMade g s → s.forest ≡ old.forest → p ≡ part_of old.forest b k
@@ -75,10 +69,8 @@ module _ {g : WeightedGraph} {old : Search} {b : ℕ} (is : IsSetIn g old b) whe
       (λ p. bool_number (f.holds p v)) (f.nest.head b) (f.nest.parts b)) g.n ring.shared in
       let sums = counts_exchanged f.nest.after (λ p v. bool_number (f.holds p v)) (f.nest.head b) g.n
       (f.nest.parts b) in
-      let many = ring_sum_high f.nest.after (blossom_size g.n f) (f.nest.head b) (f.nest.parts b) (λ k. omega (
-        arith,
-        odd_blossom are is.valid.valid.nested (part_of old.forest b k) (part_used are is.valid.valid.nested ring k),
-      )) in
+      let many = ring_sum_high f.nest.after (blossom_size g.n f) (f.nest.head b) (f.nest.parts b)
+      (search (rules, odd_blossom are is.valid.valid.nested, part_used are is.valid.valid.nested ring)) in
       let all = count_below_le (λ v. bool_number (f.holds b v)) (λ v. 1) g.n
       (λ v l. cond_both (f.holds b v) 1 0 (λ x. x ≤ 1) (λ _. omega arith) (λ _. omega arith)) in
       omega (arith, count_below_ones g.n)
@@ -133,10 +125,6 @@ module _ {g : WeightedGraph} {old : Search} {t : ForestTables} {new : Search} (v
   stepped : IsUnderWay g old → IsStep g old (forest_of t) t.root new → HasStepped g old new
   stepped way step = search (rules, way_after, is.forest, step.seeking)
 
-grown_inner : (label : ℕ → Label) (inn outer b : ℕ) → set_at (set_at label inn Inner) outer Outer b ≡ Inner
-    → (b ≡ inn) ⊎ (label b ≡ Inner)
-grown_inner label inn outer b inner = grind (arith, nat_tests)
-
 -- A tree grows along dart d, to a matched blossom and to its mate at the end of dart m.
 pub record Growth (g : WeightedGraph) (old : Search) (t : ForestTables) (d m : ℕ) : Type 0 where
   pub way : IsUnderWay g old
@@ -171,9 +159,6 @@ module _ {g : WeightedGraph} {old : Search} {t : ForestTables} {d m : ℕ} (grow
   abbrev after : Forest
   after = grown (darts_of g) f d m
 
-  outer_label : after.label outer ≡ Outer
-  outer_label = set_here (set_at f.label inn Inner) outer Outer
-
   inner_label : after.label inn ≡ Inner
   inner_label = set_there (set_at f.label inn Inner) outer inn Outer growth.apart ∙ set_here f.label inn Inner
 
@@ -186,12 +171,11 @@ module _ {g : WeightedGraph} {old : Search} {t : ForestTables} {d m : ℕ} (grow
       → IsStep g old after old.forest.root new
   grown_step {new} at_inner at_outer =
       let valid = growth.way.valid.valid in
-      let turned = grown_turned g f old.forest.root valid d m old.risen new.tour growth.mate
-      (at_outer.edges (λ inner. cc outer_label)) (at_inner.leaf inner_label) in
+      let turned = grown_turned g f _ valid d m _ _ growth.mate
+      (at_outer.edges (λ inner. cc (set_here (set_at f.label inn Inner) outer Outer))) (at_inner.leaf inner_label) in
       let marked : (b : ℕ) → after.label b ≡ Inner → (f.label b ≡ Inner) ⊎ (get_or new.inner.items b false ≡ true) =
-      λ b inner. elim (grown_inner f.label inn outer b inner)
-      [ inl e ↦ inr (rw e (at_inner.mark inner_label)) | inr was ↦ inl was ] in
-      let fewer = grown_fewer g growth.way.made.small.lawful f old.forest.root valid d m growth.reach.off growth.mate in
+      search (rules, at_inner.mark inner_label) in
+      let fewer = grown_fewer g growth.way.made.small.lawful f _ valid d m growth.reach.off growth.mate in
       assumption
 
   pub grown_stepped : {new : Search} → IsRefreshed g (record old { forest = t }) new → IsFreshAt g new inn
@@ -208,14 +192,9 @@ module _ {g : WeightedGraph} {old : Search} {t : ForestTables} {d : ℕ} (way : 
   many_is : get_or t.parts s.set 0 ≡ s.many
   many_is = s.shrunk.parts s.set ∙ set_here (forest_of old.forest).nest.parts s.set s.many
 
-  head_is : get_or t.head s.set 0 ≡ s.top
-  head_is = s.shrunk.head s.set ∙ set_here (forest_of old.forest).nest.head s.set s.top
-
   -- The new set has parts.
   pub closed : IsSetIn g (record old { forest = t }) s.set
-  closed =
-      let live : get_or t.parts s.set 0 ≢ 0 = λ none. omega (arith, many_is, none, s.row.odd) in
-      assumption (made_after t way.made s.shrunk.size, s.unused.high)
+  closed = search (rules, many_is)
 
   -- The keys at its marked parts are right, and its mark is taken away.
   pub shrunk_stepped : {mid new : Search} → mid ≡ record old { forest = t; tour = mid.tour; members = mid.members }
@@ -227,23 +206,16 @@ module _ {g : WeightedGraph} {old : Search} {t : ForestTables} {d : ℕ} (way : 
   shrunk_stepped {mid} {new} same room mended right e marks =
       let lawful = way.made.small.lawful in
       let tour_is : new.tour ≡ mid.tour = rw e in
-      let made = closed.made in
-      let refreshed : IsRefreshed g (record old { forest = t }) new = record {
-        forest = rw (e, same);
-        risen = rw (e, same);
-        first = rw (e, same);
-        parts = rw (e, same);
-        made = search rules;
-        mended = rw e mended;
-        marked = λ x inner on. ap (λ ms. get_or ms x false) marks ∙ get_or-set_other mid.inner.items s.set x false false
-            (λ at. cc (shrunk_set lawful way.valid.valid s)) ∙ ap (λ (y : Search). get_or y.inner.items x false) same
-            ∙ on;
-      } in
+      let refreshed : IsRefreshed g (record old { forest = t }) new = search (
+        rules,
+        shrunk_set lawful way.valid.valid s,
+      ) in
       stepped valid refreshed way (record {
         taken = record {
           turned = rw tour_is (shrunk_turned lawful way.valid.valid s old.risen mid.tour (λ p on inner.
               let w = s.row.all p on in
-              let here : part_of t s.set w.0 ≡ p = ap (λ x. walk (forest_of t).nest.after x w.0) head_is ∙ w.2 in
+              let here : part_of t s.set w.0 ≡ p = ap (λ x. walk (forest_of t).nest.after x w.0) (s.shrunk.head s.set
+              ∙ set_here (forest_of old.forest).nest.head s.set s.top) ∙ w.2 in
               rw here at (right w.0 (rw many_is w.1)) (way.marked p inner)));
           size = s.shrunk.size;
           weights = s.shrunk.weight;
@@ -258,18 +230,16 @@ module _ {g : WeightedGraph} {old : Search} {t : ForestTables} {d : ℕ} (way : 
 pub closed_set : {g : WeightedGraph} {old : Search} (t : ForestTables) (e : ℕ) (way : IsUnderWay g old)
     (s : IsShrinking (darts_of g) (forest_of old.forest) (forest_of t) old.forest.root t.root (2 * e))
     → e < length g.edges → {u b : ℕ} → u ≡ (edge_at g e).u → b ≡ (forest_of t).out u → b ≡ s.set
-closed_set {g} {old} t e way s low {u} u_is b_is = b_is ∙ (ap (forest_of t).out u_is
-    ∙ shrunk_on way.made.small.lawful way.valid.valid s (edge_at g e).u (way.made.small.lawful.left e low)
-    (ap (λ x. s.inside ((forest_of old.forest).out x)) (sym (dart_near g e)) ∙ s.begins))
+closed_set {g} {old} t e way s low {u} u_is b_is = b_is ∙ (ap (forest_of t).out u_is ∙ shrunk_on way.made.small.lawful
+    way.valid.valid s (edge_at g e).u (way.made.small.lawful.left e low) (search (rules, dart_near)))
 
 -- A set that may be opened is in use.
 pub opens : {g : WeightedGraph} {s : Search} {b : ℕ} → MayOpen g s b → IsSetIn g s b
 opens {g} {s} {b} may =
     let valid = may.way.valid in
     let w = valid.valid.outermost.named b (inner_named may.inner) in
-    let live : get_or s.forest.parts b 0 ≢ 0 = λ none. true_false (ap (λ x. (forest_of s.forest).holds x w.0)
-    (sym w.2) ∙ held_out g valid.valid w.0 w.1) (valid.valid.nested.empty b w.0 may.set w.1 none) in
-    assumption
+    let live : get_or s.forest.parts b 0 ≢ 0 = λ none. search (rules, valid.valid.nested.empty b w.0 may.set w.1 none)
+    in assumption
 
 -- It has been opened.
 module _ {g : WeightedGraph} {old : Search} {t : ForestTables} {b : ℕ} (may : MayOpen g old b) (valid : IsValidFor g t)
@@ -303,17 +273,14 @@ module _ {g : WeightedGraph} {old : Search} {t : ForestTables} {b : ℕ} (may : 
       let p = x.opening.parts j l in
       let w = (ring (opens may)).all (x.o.q j) (p.0 ∙ x.is) (λ e. p.1 (e ∙ sym x.is)) in
       let low : w.0 < length list = rw parts.count w.1 in
-      right_in old is (rw (← w.2, ← parts.each w.0 low) (here w.0 low)) in
+      right_in old is (rw (← w.2, ← parts.each _ low) (here _ low)) in
       stepped valid is may.way (rw root_is (record {
         taken = record {
-          turned = opened_turned lawful valid_old x.opening x.opened old.risen new.tour
+          turned = opened_turned lawful valid_old x.opening x.opened _ _
               (λ j l. (right j l).edges) (λ j l. (right j l).leaf);
           size = x.opened.size;
           weights = x.opened.weight;
-          marked = λ c inner. elim (opened_inner lawful valid_old x.opening x.opened c inner) [
-            | inl p ↦ inr (rw p.2 at ((right p.0 p.1).mark (ap (forest_of t).label p.2 ∙ inner)))
-            | inr was ↦ inl was
-          ];
+          marked = search (rules, opened_inner lawful valid_old x.opening x.opened);
         };
         tree = may.way.tree;
         seeking = λ v seeking. rw seeking.root_is (seeking_opened lawful (rw seeking.root_is at may.way.valid.valid)
@@ -332,14 +299,9 @@ module _ {g : WeightedGraph} {old : Search} {t : ForestTables} {new : Search} (v
   idle_valid : IsValid (darts_of g) (forest_of old.forest) None
   idle_valid = rw idle.no_tree at idle.valid.valid
 
-  not_inner : (x : ℕ) → (rooted (forest_of old.forest) b).label x ≢ Inner
-  not_inner x inner = search rules
-
   rooted_taken : IsRightIn g (rooted (forest_of old.forest) b) old.risen new b
       → IsTaken g old (rooted (forest_of old.forest) b) new
-  rooted_taken at =
-      let turned = rooted_turned g b old.risen new.tour idle_valid (at.edges (not_inner b)) in
-      search (rules, not_inner)
+  rooted_taken at = grind (arith, rooted_turned g b old.risen new.tour idle_valid (at.edges ((λ inner. search rules))))
 
   pub begun_way : IsFreshAt g new b → IsUnderWay g new
   begun_way at = way_after valid is
@@ -349,8 +311,7 @@ module _ {g : WeightedGraph} {old : Search} {t : ForestTables} {new : Search} (v
 
   pub begun_seeking : v < g.n → AreMatchedBefore (forest_of old.forest) v
       → IsSeeking g.n (forest_of new.forest) new.forest.root v
-  begun_seeking l before = rw is.forest (rw root (subst (λ (h : Forest). IsSeeking g.n h (Some b) v)
-      (sym rooted_is) (seeking_begun g.n (forest_of old.forest) v l before)))
+  begun_seeking l before = grind (arith, seeking_begun g.n (forest_of old.forest) v l before)
 
 -- The matching has grown.
 pub idle_after : {g : WeightedGraph} {old : Search} {t : ForestTables} {f : Forest} {r d : ℕ} → IsMade g old

@@ -1,4 +1,5 @@
 -- Counting along a range.
+use Rattle.std.proofs.lemmas.Grind.{common_steps}
 use Rattle.std.proofs.Common.{rules, ◌≡◌, ℕ, zero, suc, ◌+◌, ◌<◌, ◌≤◌, Bool, true, false, cond, [], ◌∷◌, ◌++◌, length}
 use Rattle.std.proofs.Common.{map, ◌∙◌, refl, arith, ◌≢◌, ◌⊎◌, ◌*◌, ◌/◌, eqb, List, get_or, set, Option, Some, None}
 use Rattle.std.proofs.Common.{sym, inl, inr, ◌||◌}
@@ -65,17 +66,11 @@ waits_new xs g = one_came xs g g ∙ or_right _ _ (or_left _ _ (eq-eqb g g refl)
 waits_cases : (xs : List ℕ) (y g : ℕ) → Waits (xs ++ y ∷ []) g → Waits xs g ⊎ (y ≡ g)
 waits_cases xs y g w = grind (arith, nat_tests, one_came xs y g)
 
--- One face more has its number.
-fewer : (numbers : List ℕ) (g component : ℕ) → g < length numbers → get_or numbers g 0 ≡ NONE → component ≢ NONE
-    → count_by (λ n. eqb n NONE) (set numbers g component) + 1 ≡ count_by (λ n. eqb n NONE) numbers
-fewer numbers g component l is ne = search (rules, sum_by-set)
-
 -- Faces share an edge where a dart of one has its twin in the other.
 pub shared_by : (faces : Faces) (f d e : ℕ) → 4 * f ≤ d → d < 4 * f + 4 → twin_of faces d ≡ Some e
     → share_edge faces f (e / 4) ≡ true
-shared_by faces f d e l h w = any_in_range (λ x. list_any (is_reverse faces x) (range_with_len (4 * (e / 4)) 4)) (4 * f)
-    4 d l h (any_in_range (is_reverse faces d) (4 * (e / 4)) 4 e (omega arith) (omega arith)
-    (twin_reverse faces d e (twin_is faces d e w)))
+shared_by faces f d e l h w = any_in_range (λ x. list_any (is_reverse faces x) (range_with_len (4 * (e / 4)) 4)) _ 4 d l
+    h (grind (arith, any_in_range (is_reverse faces d) (4 * (e / 4)) 4 e, twin_reverse faces d e (twin_is faces d e w)))
 
 shared_dart : (faces : Faces) → IsManifold faces → (f h : ℕ) → h < length faces → share_edge faces f h ≡ true
     → (d : ℕ) × (e : ℕ) × (4 * f ≤ d) × (d < 4 * f + 4) × (twin_of faces d ≡ Some e) × (e / 4 ≡ h)
@@ -118,17 +113,11 @@ module _ {faces : Faces} {f component i : ℕ} {old now w0 w : List ℕ} (low : 
           let new = waits_new w beside in
           let kept = waits_old w beside h in
           grind (arith, cases_eq h beside, value, other h, o, side, new, kept);
-      near = λ d x l h t.
-          let near = s.near d x l in
-          grind (arith, cases_lt d (4 * f + i), cases_eq (x / 4) beside, near, other (x / 4), value, is, t, low);
+      near = λ d x l h t. grind (arith, common_steps, s.near d x l);
       waits = λ h k. waits_old w beside h (s.waits h k);
-      come = λ h k.
-          let bare_old = s.kept beside g_low in
-          let cases = waits_cases w beside h k in
-          grind (arith, cases_eq h beside, cases, s.come h, value, other h, bare_old, bare);
+      come = search (rules, g_low, waits_cases);
       low = λ h k. elim (waits_cases w beside h k) [ inl a ↦ s.low h a | inr q ↦ rw (← q) g_low ];
-      less = let one = fewer now beside component (omega (arith, g_low, s.long)) bare (λ q. omega arith) in
-          omega (arith, s.less, length-append w (beside ∷ []));
+      less = search (rules, sum_by-set, g_low, length-append);
     }
 
   pub spread_more : IsSpread faces f component (i + 1) old (numbers_with (twin_of faces (4 * f + i)) component now) w0
@@ -138,10 +127,7 @@ module _ {faces : Faces} {f component i : ℕ} {old now w0 w : List ℕ} (low : 
       at : (o : Option ℕ) → twin_of faces (4 * f + i) ≡ o
           → IsSpread faces f component (i + 1) old (numbers_with o component now) w0 (waiting_with o now w)
       at None is = unchanged (λ x t. absurd (none-some x (sym is ∙ t)))
-      at (Some e) is = elim (cases_Bool (eqb (get_or now (e / 4) 0) NONE)) [
-        | inl on ↦ rw on (numbered e is (eqb-true (get_or now (e / 4) 0) NONE on))
-        | inr off ↦ rw off (unchanged (λ x t. grind (arith, nat_tests, off, is, t)))
-      ]
+      at (Some e) is = grind (arith, numbered e is, eqb-true (get_or now (e / 4) 0) NONE, unchanged)
 
 -- The first face has its number and waits.
 pub flood_none : {faces : Faces} {first component : ℕ} {old : List ℕ} (waiting : List ℕ) {more : List ℕ}
@@ -187,8 +173,7 @@ module _ {faces : Faces} {first component : ℕ} {old now waiting : List ℕ} (f
       kept = λ g l k. grind (arith, w.kept g l k, s.kept g l);
       begun = grind (arith, w.begun, s.kept first lf, low);
       fresh = λ g l k o.
-          let near = closed faces first f g lf taken_low.0 l f_marked in
-          grind (arith, cases_eq (get_or now g 0) NONE, s.fresh g l k, w.fresh g l, s.kept g l, near);
+          grind (arith, closed faces first f g lf taken_low.0 l f_marked, s.fresh g l k, w.fresh g l, s.kept g l);
       done = λ g l k o. elim (cases_eq (get_or now g 0) NONE) [
         | inl bare ↦ inl (s.fresh g l k bare).2
         | inr has ↦ elim (w.done g l has o) [
@@ -208,12 +193,7 @@ module _ {faces : Faces} {first component : ℕ} {old now waiting : List ℕ} (f
 pub flood_over : {faces : Faces} {first component : ℕ} {old now waiting : List ℕ} → first < length faces
     → get_or old first 0 ≡ NONE → component < NONE → IsClosed faces old → length waiting ≡ 0
     → IsFlood faces first component old now waiting → IsFlooded faces first component old now
-flood_over {faces} {first} {component} {old} {now} {waiting} lf is low shut none w = record {
-  long = w.long;
-  kept = w.kept;
-  fresh = w.fresh;
-  all = λ g l k. let c = sound faces first (length faces) g lf l k in (reach g c.0 c.1).0;
-}
+flood_over {faces} {first} {component} {old} {now} {waiting} lf is low shut none w = search (rules, sound, reach)
   where
     nobody : (g : ℕ) → Waits waiting g → ⊥
     nobody g a = false≢true (rw (nil_from_length waiting none) at a)

@@ -1,4 +1,5 @@
 -- A walk onward from the end of a walk back is a longest run, and with it the runs of one dart more are found.
+use Rattle.std.proofs.lemmas.Grind.{common_steps}
 use Rattle.std.proofs.Common.{rules, ◌≡◌, ◌≢◌, ◌⊎◌, ℕ, zero, suc, ◌+◌, ◌-◌, ◌<◌, ◌≤◌, Bool, true, false, Some, List, []}
 use Rattle.std.proofs.Common.{◌∷◌, ◌++◌, length, replicate, get_or, sym, ap, ◌∙◌, refl, inl, inr, arith, ◌/◌, map}
 use Rattle.std.proofs.lemmas.List.{length-append, length-replicate, map-append, get_or_append_left, get_or-append-add}
@@ -45,8 +46,7 @@ module _ {faces : Faces} (m : IsManifold faces) {d first r : ℕ} {line : Line} 
   -- Where the walk back comes to d again, the walk onward does not end.
   module _ (round : leader faces (behind back.steps) ≡ Some d) (same : first ≡ d) where
     goes_round : (i : ℕ) → i ≤ back.steps → (k : ℕ) × (k ≤ back.steps) × (follower faces (behind i) ≡ Some (behind k))
-    goes_round zero h =
-        (back.steps, omega arith, on_from m (behind back.steps) d (behind_low back.steps (omega arith)) round)
+    goes_round zero h = grind (arith, on_from m (behind back.steps) d (behind_low back.steps (omega arith)) round)
     goes_round (suc i) h = (i, omega arith, undone i (omega arith))
 
     -- So the walk onward goes on.
@@ -104,8 +104,7 @@ module _ {faces : Faces} (m : IsManifold faces) {d first r : ℕ} {line : Line} 
   too_short : first ≡ behind back.steps → (i : ℕ) → on.last + suc i ≡ back.steps → ⊥
   too_short e i s =
       let next = ap (follower faces) (along e on.last (suc i) s (omega arith)) ∙ undone i (omega arith) in
-      let apart = places_differ (leads m) d low back.steps back.goes back.away i back.steps in
-      grind (arith, cases_Bool line.closed, on.closes, on.opens, next, apart, e)
+      grind (arith, places_differ (leads m) d low back.steps back.goes back.away i back.steps)
 
   -- The dart with which the walk back began stands in the run.
   pub d_stands : (k : ℕ) × (k < suc on.last) × (ahead k ≡ d)
@@ -170,8 +169,7 @@ module _ {faces : Faces} (m : IsManifold faces) {d first : ℕ} {line : Line} {r
   old_at r l = get_or_append_left so.lists (new ∷ []) [] r l
 
   new_at : nth_run lists (length so.lists) ≡ new
-  new_at = let e : length so.lists + 0 ≡ length so.lists = omega arith in
-      ap (nth_run lists) (sym e) ∙ get_or-append-add so.lists (new ∷ []) 0 []
+  new_at = grind (arith, common_steps)
 
   -- Each run was found before, or is the new one.
   place : (r : ℕ) → r < length lists → ((r < length so.lists) × (nth_run lists r ≡ nth_run so.lists r))
@@ -192,8 +190,7 @@ module _ {faces : Faces} (m : IsManifold faces) {d first : ℕ} {line : Line} {r
   -- So each of them is d or greater.
   list_high : (k : ℕ) → k < length new → d ≤ get_or new k 0
   list_high k l =
-      let at = walk_at onward on.last k in
-      grind (arith, cases_lt (onward k) d, so.found.all (onward k), ahead_fresh k, at, walk_long onward on.last)
+      grind (arith, walk_at onward on.last k, so.found.all (onward k), ahead_fresh k, walk_long onward on.last)
 
   -- A dart that had a number keeps it.
   kept_at : (e : ℕ) → get_or run_old e 0 ≢ NONE → (get_or run e 0 ≡ get_or run_old e 0)
@@ -213,18 +210,14 @@ module _ {faces : Faces} (m : IsManifold faces) {d first : ℕ} {line : Line} {r
       × (get_or (nth_run lists (get_or run e 0)) (get_or at e 0) 0 ≡ e)
   there e l ne = elim (sent_or_not onward e (suc on.last)) [
     | inl t ↦
-        let told = on.told.told t.0 t.1 in
-        let stands = walk_at onward on.last t.0 t.1 in
-        grind (arith, told, new_at, long, stands, walk_long onward on.last)
-    | inr other ↦ let same = on.told.kept e other in
-        grind (arith, same, so.found.there e l, old_at (get_or run_old e 0), long)
+        grind (arith, common_steps, on.told.told t.0 t.1, walk_at onward on.last t.0 t.1, walk_long onward on.last)
+    | inr other ↦ grind (arith, common_steps, on.told.kept e other, so.found.there e l)
   ]
 
   all : (e : ℕ) → e < d + 1 → get_or run e 0 ≢ NONE
   all e l none =
       let (k, h, t) = d_stands m low back on in
-      let told = on.told.told k h in
-      grind (arith, last_or d e l, so.found.all e, kept_at e, told, t, so.few)
+      search (rules, kept_at)
 
   pub one_more : AreRunsSoFar faces (d + 1) run at (len ++ line.len ∷ []) (closed ++ line.closed ∷ [])
   one_more = record {
@@ -261,8 +254,7 @@ passed_by {d} {run} old so = record {
   found =
       let below : (r : ℕ) → r < length so.lists → (k : ℕ) × (k < length (nth_run so.lists r))
       × (get_or (nth_run so.lists r) k 0 < d + 1) = λ r l. grind (arith, so.found.below r l) in
-      let all : (e : ℕ) → e < d + 1 → get_or run e 0 ≢ NONE = λ e l. grind (arith, last_or d e l, so.found.all e) in
-      assumption (below, all);
+      search rules;
   run_long = so.run_long;
   at_long = so.at_long;
   lengths = so.lengths;
@@ -287,5 +279,4 @@ module _ (faces : Faces) where
   -- The number of a dart's component is one of them.
   pub number_there : IsManifold faces → {numbers : List ℕ} → numbers ≡ component_numbers faces → {d : ℕ}
       → d < darts faces → get_or numbers (d / 4) 0 < length (least_faces faces)
-  number_there manifold {numbers} are {d} low =
-      omega (arith, number_read faces numbers d are, number_low manifold d low)
+  number_there manifold {numbers} are {d} low = omega (arith, number_read _ _ d are, number_low manifold d low)

@@ -72,9 +72,7 @@ module _ (faces : Faces) where
   pub place_less : (f g : ℕ) → f < g → g ≤ length faces → least_face faces f ≡ f
       → place_among (least_faces faces) f < place_among (least_faces faces) g
   place_less f zero less l own = absurd (omega arith)
-  place_less f (suc g) less l own =
-      let e : suc g ≡ g + 1 = omega arith in
-      rw e (grind (arith, nat_tests, last_or g f (omega arith), place_next g (omega arith), place_less f g, own))
+  place_less f (suc g) less l own = grind (arith, place_next g, place_less f g)
 
   -- No component yet.
   pub numbering_none : (numbers : List ℕ) → numbers ≡ replicate (length faces) NONE → IsNumbering faces 0 0 numbers
@@ -84,8 +82,7 @@ module _ {faces : Faces} {f components : ℕ} {numbers : List ℕ} (n : IsNumber
   -- Numbered faces are closed.
   pub numbering_closed : IsClosed faces numbers
   numbering_closed g h lg lh k s =
-      let same = least_same faces g h lg lh (closed faces g g h lg lg lh (own_mark faces g lg) s) in
-      n.all h lh (omega (arith, same, (n.below g lg k).0))
+      search (rules, least_same faces g h lg lh (closed faces g g h lg lg lh (own_mark faces g lg) s))
 
   pub numbering_low : f ≤ length faces → components ≤ f
   numbering_low l = omega (arith, n.many, place_low faces f l)
@@ -99,16 +96,9 @@ module _ {faces : Faces} {f components : ℕ} {numbers : List ℕ} (n : IsNumber
       → IsFlooded faces f components numbers new → IsNumbering faces (f + 1) (components + 1) new
   numbering_more l bare {new} w = record {
     long = w.long;
-    below = λ g lg k.
-        let same = least_same faces f g l lg in
-        grind (arith, cases_eq (get_or numbers g 0) NONE, w.fresh g lg k, same, own, n.many, n.below g lg, w.kept g lg);
-    all = λ g lg h.
-        let same = same_component faces g f lg l in
-        let own = own_mark faces g lg in
-        let marked = least_marked faces g lg in
-        grind (arith, cases_eq (least_face faces g) f, w.all g lg, same, marked, own, n.all g lg, w.kept g lg);
-    many = let one = ap {B = ℕ} (λ (b : Bool). cond b 1 0) (eq-eqb (least_face faces f) f own) in
-        omega (arith, n.many, place_next faces f l);
+    below = search (rules, least_same, own);
+    all = search (rules, same_component faces, own_mark faces, least_marked faces);
+    many = search (rules, own, place_next);
   }
     where
       own : least_face faces f ≡ f
@@ -116,10 +106,8 @@ module _ {faces : Faces} {f components : ℕ} {numbers : List ℕ} (n : IsNumber
 
   -- All faces.
   pub numbers_are : f ≡ length faces → numbers ≡ component_numbers faces
-  numbers_are all = ext_get_or 0 numbers _ (simp (length-map, length-range_with_len) n.long) (λ g h.
-      let lg : g < length faces = omega (arith, n.long) in
-      (n.below g lg (n.all g lg (omega (arith, least_low faces g lg)))).1
-      ∙ sym (get_or-map-range_with_len _ 0 (length faces) g g 0 lg (omega arith)))
+  numbers_are all = ext_get_or 0 _ _ (simp (length-map, length-range_with_len) n.long)
+      (search (rules, least_low, get_or-map-range_with_len))
 
   pub count_is : f ≡ length faces → components ≡ length (least_faces faces)
   count_is all = n.many ∙ rw all (place_all faces)
@@ -130,10 +118,7 @@ module _ {faces : Faces} {f components : ℕ} {numbers : List ℕ} (n : IsNumber
 first_is : (q : ℕ → Bool) (v a n : ℕ) → is_first v (filter q (range_with_len a n)) ≡ true
     ↔ (a ≤ v) × (v < a + n) × (q v ≡ true) × ((u : ℕ) → a ≤ u → u < v → q u ≡ false)
 first_is q v a zero = (λ f. absurd (false≢true f), λ t. absurd (omega (arith, t.0, t.1)))
-first_is q v a (suc n) = let rest = first_is q v (a + 1) n in (
-  λ f. grind (arith, nat_tests, cases_Bool (q a), rest.0, f),
-  λ t. grind (arith, nat_tests, cases_Bool (q a), cases_eq v a, rest.1, t.0, t.1, t.2, t.3 a),
-)
+first_is q v a (suc n) = search (rules, first_is q v (a + 1) n)
 
 -- A test on one of a filtered range, and on all of it.
 any_filter : (r q : ℕ → Bool) (xs : List ℕ) → list_any r (filter q xs) ≡ list_any (λ x. q x && r x) xs
@@ -150,12 +135,7 @@ any_is r q n = rw (any_filter r q (range_with_len 0 n)) (
 all_is : (r q : ℕ → Bool) (a n : ℕ) → list_all r (filter q (range_with_len a n)) ≡ true
     ↔ ((u : ℕ) → a ≤ u → u < a + n → q u ≡ true → r u ≡ true)
 all_is r q a zero = (λ all u l h on. absurd (omega arith), λ each. refl)
-all_is r q a (suc n) = let rest = all_is r q (a + 1) n in (
-  λ all u l h on. grind (arith, cases_Bool (q a), cases_eq u a, rest.0, all, on),
-  λ each.
-      let behind = rest.1 (λ u l h. each u (omega arith) (omega arith)) in
-      grind (arith, cases_Bool (q a), behind, each a),
-)
+all_is r q a (suc n) = search (rules, all_is r q (a + 1) n)
 
 module _ {faces : Faces} (m : IsManifold faces) where
   abbrev laws : IsQuadManifold (half_edges faces)
@@ -186,10 +166,7 @@ module _ {faces : Faces} (m : IsManifold faces) where
   -- Darts of one number are in one component, and the other way round.
   same_number : (d e : ℕ) → d < darts faces → e < darts faces
       → (number_of faces d ≡ number_of faces e) ↔ (home d ≡ home e)
-  same_number d e ld le = (
-    search (rules, number_is, place_less, home_low, home_again),
-    λ s. number_is d ld ∙ (ap place s ∙ sym (number_is e le)),
-  )
+  same_number d e ld le = search (rules, number_is, place_less, home_low, home_again)
 
   -- The marks of a component are on its darts, and on no others.
   marked_is : (f d : ℕ) → f < length faces → d < darts faces → least_face faces f ≡ f
@@ -219,13 +196,8 @@ module _ {faces : Faces} (m : IsManifold faces) where
   lies_is : (f v : ℕ) → f < length faces → least_face faces f ≡ f → (lies f v ≡ true)
       ↔ (e : ℕ) × (e < darts faces) × (from_of faces e ≡ v) × (home e ≡ f)
   lies_is f v lf own =
-      let test = λ (d : ℕ). eqb (from_of faces d) v && is_marked (component_of faces f) (d / 4) in (
-        λ t. let (e, l, h, both) = range_any test 0 (darts faces) t in
-            grind (arith, nat_tests, marked_is f e lf (omega arith) own, both),
-        λ t. let marked = (marked_is f t.0 lf t.1 own).1 t.3 in
-            any_in_range test 0 (darts faces) t.0 (omega arith) (omega (arith, t.1))
-            (grind (arith, nat_tests, marked, t.2)),
-      )
+      let test = λ (d : ℕ). eqb (from_of faces d) v && is_marked (component_of faces f) (d / 4) in
+      search (rules, range_any test 0 (darts faces), marked_is f, any_in_range test 0 (darts faces))
 
   -- A seed is the least vertex of a component of regular ones.
   abbrev IsRingSeed : (v : ℕ) → Type 0
@@ -274,14 +246,7 @@ module _ {faces : Faces} (m : IsManifold faces) where
       let c = number_of faces d in
       same_test _ _ (λ t.
       let (on, first) = and_parts (get_or regular c false) _ t in
-      (seed_is (from_of faces d)).1 (
-        d,
-        ld,
-        refl,
-        λ e le h. let same = (same_number e d le ld).1 h in
-            (r.on e le (rw same on), omega (arith, r.lowest e le, ap (λ k. get_or least k 0) same, eqb-true _ _ first)),
-      ))
-      (λ s.
+      (seed_is (from_of faces d)).1 (d, ld, refl, λ e le h. search (rules, same_number e d le ld))) (λ s.
       let (e, le, at, each) = (seed_is (from_of faces d)).0 s in
       let near = λ (x : ℕ) (lx : x < darts faces) (q : number_of faces x ≡ c).
       each x lx ((same_number x d lx ld).0 q ∙ at_one_vertex e d le ld at) in
@@ -296,8 +261,7 @@ module _ {faces : Faces} (m : IsManifold faces) where
   -- The marks tell seeds too.
   pub mark_test : (marks : List Bool) (v : ℕ) → AreSeedMarks faces (vertex_count faces) (darts faces) marks
       → get_or marks v false ≡ is_seed faces v
-  mark_test marks v k = same_test _ _ (k.on v) (λ s. let (e, le, here, each) = (seed_is v).0 s in
-      rw (← here) (k.all e le (ap (is_seed faces) here ∙ s)))
+  mark_test marks v k = search (rules, seed_is)
 
 -- One dart more.
 module _ {faces : Faces} (m : IsManifold faces) {d : ℕ} (ld : d < darts faces) {regular : List Bool} {least : List ℕ}
@@ -307,9 +271,6 @@ module _ {faces : Faces} (m : IsManifold faces) {d : ℕ} (ld : d < darts faces)
 
   abbrev v : ℕ
   v = from_of faces d
-
-  low_r : c < length regular
-  low_r = omega (arith, number_low m d ld, r.regular_long)
 
   low_l : c < length least
   low_l = omega (arith, number_low m d ld, r.least_long)
@@ -337,7 +298,7 @@ module _ {faces : Faces} (m : IsManifold faces) {d : ℕ} (ld : d < darts faces)
     regular_long = grind (arith, cases_Bool b, length-set regular c false, r.regular_long);
     least_long = grind (arith, cases_Bool s, length-set least c v, r.least_long);
     on = λ e l t.
-        let same = get_or-set_same regular c false false low_r in
+        let same = get_or-set_same regular c false false (omega (arith, number_low m d ld, r.regular_long)) in
         let other = get_or-set_other regular c (number_of faces e) false false in
         grind (arith, cases_Bool b, last_or d e l, cases_eq (number_of faces e) c, same, other, r.on e);
     off = off b is_b;
@@ -366,13 +327,10 @@ number_read faces component d e = ap (λ (xs : List ℕ). get_or xs (d / 4) 0) e
 pub start_is : (faces : Faces) (d : ℕ) → d < darts faces → (is_singular_kind (kind_of faces (from_of faces d))
     || (is_some (twin_of faces d) && (is_reflex_kind (kind_of faces (from_of faces d))
     || is_seed faces (from_of faces d)))) ≡ is_start faces (seeds faces) d
-start_is faces d ld = let v = from_of faces d in
-    rw (singular_is faces v, reflex_is faces v used, listed v (all_below faces d ld)) refl
+start_is faces d ld = search (rules, used, listed, all_below)
   where
     listed : (u : ℕ) → u < vertex_count faces → is_seed faces u ≡ list_any (λ x. eqb x u) (seeds faces)
-    listed u l = let some = any_is (λ x. eqb x u) (is_seed faces) (vertex_count faces) in same_test _ _
-        (λ s. some.1 (u, l, s, eq-eqb u u refl)) (λ t. grind (arith, nat_tests, some.0 t))
+    listed u l = search (rules, any_is)
 
     used : 0 < faces_at faces (from_of faces d)
-    used = let q = (is_fan faces (from_of faces d) (fan_of faces (from_of faces d)) refl).place d ld refl in
-        omega (arith, q.1)
+    used = grind (arith, is_fan faces (from_of faces d) (fan_of faces (from_of faces d)))

@@ -34,9 +34,7 @@ module _ {faces : Faces} (m : IsManifold faces) where
   pub on_from : (e d : ℕ) → e < darts faces → leader faces e ≡ Some d → follower faces d ≡ Some e
   on_from e d l is =
       let (on, t, w, s) = chosen _ prev_of (twin_of faces (prev_of e)) d is in
-      let low = laws.prev_low e l in
-      let ends = (laws.twin_ends (prev_of e) t low w).0 in
-      rw (← s, laws.next_prev t, laws.twin_twin (prev_of e) t low w, ends, laws.next_prev e, on) refl
+      search (rules, laws.twin_ends (prev_of e) t, laws.next_prev t, laws.twin_twin (prev_of e) t, laws.next_prev e)
 
   -- At most one dart is followed, and at most one leads.
   pub follows : IsStep (follower faces) (darts faces)
@@ -68,14 +66,7 @@ module _ {step : ℕ → Option ℕ} {n : ℕ} (one : IsStep step n) (d : ℕ) (
 
   pub walk_on : {many dart e : ℕ} → IsWalk step n d many dart → step dart ≡ Some e → e ≢ d
       → IsWalk step n d (many + 1) e
-  walk_on {many} {dart} {e} w is ne =
-      let here : step (walked step d many) ≡ Some e = ap step (sym w.at) ∙ is in
-      record {
-        at = rw add-one (ap (λ o. or_stay o (walked step d many)) (sym here));
-        low = one.low dart e w.low is;
-        goes = search (rules, w.goes);
-        away = search (rules, w.away);
-      }
+  walk_on {many} {dart} {e} w is ne = search rules
 
   -- Two places that lead to one are one.
   led_once : (many : ℕ) → Goes step d many → (i j : ℕ) → i < many → j < many
@@ -92,10 +83,7 @@ module _ {step : ℕ → Option ℕ} {n : ℕ} (one : IsStep step n) (d : ℕ) (
 
   -- No walk makes as many steps as there are numbers without meeting its start.
   pub not_endless : {many dart : ℕ} → IsWalk step n d many dart → many ≡ n → ⊥
-  not_endless {many} w all =
-      let k = comes_back n (walked step d) (λ k l. walk_low many w.goes k (omega arith))
-      (λ i j li lj. led_once many w.goes i j (omega arith) (omega arith)) in
-      w.away k.0 (omega (arith, k.1)) k.2
+  not_endless {many} w all = grind (arith, comes_back n (walked step d), walk_low many w.goes)
 
 -- The dart where a walk along a run stands is told.
 pub told_here : {faces : Faces} → IsManifold faces → {first r place dart : ℕ} {run_old run at_old at : List ℕ}

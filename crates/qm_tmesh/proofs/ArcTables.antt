@@ -1,4 +1,5 @@
 -- What is read of the arcs in a slice.
+use Rattle.std.proofs.lemmas.Grind.{common_steps}
 use Rattle.std.proofs.Common.{rules, ◌≡◌, ℕ, ◌<◌, Bool, List, [], map, length, get_or, sym, ◌∙◌, ap, arith, suc, ◌+◌}
 use Rattle.std.proofs.lemmas.List.{get_or-map, get_or_append_left, get_or_push, length-map}
 use Rattle.def_mesh.specs.{Faces.Faces, Darts.darts, HalfEdges.half_edges, HalfEdges.HalfEdges, Vertices.vertex_count}
@@ -44,12 +45,7 @@ pub arc_read : {faces : Faces} {cut marks : List Bool} → IsMarked faces cut ma
 arc_read marked arcs named {a} {arc} l is =
     let same = read_arc arcs a arc l is in
     let low : a < length (map path arcs) = omega (arith, length-map arcs path) in
-    record {
-      same = same;
-      low = low;
-      some = rw same at (named_some marked named a low);
-      below = rw same at (λ (k : ℕ). named_low marked named a k low);
-    }
+    search (rules, named_some, named_low)
 
 -- A number at place k of a list, where it was read at an equal place.
 pub read_at : (items : List ℕ) (k : ℕ) {place d : ℕ} → d ≡ get_or items place d → place ≡ k → k < length items
@@ -77,9 +73,7 @@ module _ {faces : Faces} {cut marks : List Bool} (marked : IsMarked faces cut ma
   -- The place of a node, as it was read.
   pub node_place : (list places : List ℕ) {v u d : ℕ} → ArePlaces marks list places → v < vertex_count faces → v ≡ u
       → is_node faces cut u ≡ true → d ≡ get_or places v d → (d < length list) × (get_or list d 0 ≡ u)
-  node_place list places {v} p l is on read =
-      let at = read_at places v read refl (omega (arith, p.0, marked.many)) in
-      rw (← is, at) (p.1 v (omega (arith, marked.many)) (cc (marked.told v l)))
+  node_place list places {v} p l is on read = search (rules, read_at)
 
   module _ {nodes : List ℕ} {m : ℕ} {arcs : List Path} (so : AreArcsBelow faces cut nodes m arcs) where
     -- No run has the name m.
@@ -89,21 +83,12 @@ module _ {faces : Faces} {cut marks : List Bool} (marked : IsMarked faces cut ma
       each = so.each;
       ordered = so.ordered;
       below = λ a l. omega (arith, so.below a l);
-      all = λ s n named l. elim (cases_eq (run_name mesh s n) m) [
-        | inl e ↦ absurd (none s n named e)
-        | inr ne ↦ so.all s n named (omega arith)
-      ];
+      all = λ s n named l. grind (arith, none s n named, so.all s n named);
     }
 
     pub table_skip : {starts : List ℕ} → AreStarts faces cut (darts faces) starts → get_or starts m 0 ≡ length cut
         → AreArcsBelow faces cut nodes (m + 1) arcs
-    table_skip {starts} table none = arcs_skip (λ s n named e. absurd (omega (
-      arith,
-      table.first s n named.run.low named,
-      ap (λ x. get_or starts x 0) e,
-      named.run.low,
-      marked.long,
-    )))
+    table_skip {starts} table none = arcs_skip (λ s n named e. grind (arith, table.first s n named.run.low named))
 
     -- The run from s has the name m.
     pub arcs_more : {s n : ℕ} {p : Path} → IsNamedRun faces cut s n → run_name (half_edges faces) s n ≡ m
@@ -112,8 +97,7 @@ module _ {faces : Faces} {cut marks : List Bool} (marked : IsMarked faces cut ma
       each = each_more (λ (q : Path). (r : ℕ) × IsNamedRun faces cut r (length q.darts) × IsArcFrom faces cut nodes r q)
           arcs p so.each (s, rw same at named, from);
       ordered = λ a l.
-          let front : path_at (arcs ++ p ∷ []) a ≡ path_at arcs a =
-          get_or_append_left arcs (p ∷ []) _ a (omega (arith, length_push arcs p)) in
+          let front : path_at (arcs ++ p ∷ []) a ≡ path_at arcs a = grind (arith, common_steps) in
           elim (last_or (length arcs) (suc a) (omega (arith, length_push arcs p))) [
             | inl b ↦ rw (front, get_or_append_left arcs (p ∷ []) _ (suc a) b) (so.ordered a b)
             | inr e ↦ rw (front, e, get_or_push arcs p _ _ refl) (omega (arith, so.below a (omega arith), name))
@@ -125,10 +109,7 @@ module _ {faces : Faces} {cut marks : List Bool} (marked : IsMarked faces cut ma
             let one = same_named _ marked.laws _ marked.full _ marked.stand s n r k named other (is ∙ sym e) in
             let there : path_at (arcs ++ p ∷ []) (length arcs) ≡ p = get_or_push arcs p _ _ refl in
             (length arcs, omega (arith, length_push arcs p), cc list)
-        | inr ne ↦
-            let (a, la, darts) = so.all r k other (omega arith) in
-            let there : path_at (arcs ++ p ∷ []) a ≡ path_at arcs a = get_or_append_left arcs (p ∷ []) _ a la in
-            (a, omega (arith, la, length_push arcs p), cc)
+        | inr ne ↦ grind (arith, common_steps, so.all r k other)
       ];
     }
       where

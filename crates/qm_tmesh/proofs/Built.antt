@@ -1,4 +1,5 @@
 -- What was found is the layout.
+use Rattle.std.proofs.lemmas.Grind.{common_steps}
 use Rattle.std.proofs.lemmas.List.{length-map, FromFn.get_or-map-range_with_len, FromFn.length-map-range_with_len}
 use Rattle.std.proofs.Common.{◌≡◌, ℕ, zero, suc, ◌+◌, ◌-◌, ◌<◌, ◌≤◌, Bool, true, false, List, [], map, length, get_or}
 use Rattle.def_mesh.specs.{Faces.Faces, Meshes.IsMesh, Darts.darts, Vertices.vertex_count, HalfEdges.HalfEdges}
@@ -8,7 +9,7 @@ use Rattle.def_layout.specs.{Borders.border_dart, Gluings.Way, Nodes.is_node, La
 use Rattle.qm_tmesh.specs.{Arcs.AreArcsBelow, Four.AreRuns, Four.IsPatchOf, Four.HavePatches, Four.AreAllFour}
 use Rattle.qm_tmesh.proofs.Splits.{is_arc, arc_use, side_split, entry, is_line}
 use Rattle.qm_tmesh.proofs.{ArcTables.read_at, UseTables.to_named, UseTables.uses_done, UseTables.lies_in}
-use Rattle.std.proofs.Common.{◌∙◌, ap, refl, arith, ◌*◌}
+use Rattle.std.proofs.Common.{rules, ◌∙◌, ap, refl, arith, ◌*◌}
 use Rattle.qm_tmesh.specs.{Sides.reach_in, Sides.IsSplit, Sides.IsSideOf, Tables.IsMarked}
 use Rattle.std.{proofs.Math.Nat.suc-mul, specs.List.filter, specs.List.range_with_len}
 use Rattle.{def_mesh.specs.HalfEdges.half_edges, def_cut.specs.Grids.IsPartition}
@@ -22,8 +23,7 @@ use Rattle.face_laws.proofs.FullCuts.{full_cut_law}
 filter_same : (p q : ℕ → Bool) (a n : ℕ) → ((v : ℕ) → v < a + n → p v ≡ q v)
     → filter p (range_with_len a n) ≡ filter q (range_with_len a n)
 filter_same p q a zero same = refl
-filter_same p q a (suc n) same =
-    rw (same a (omega arith), filter_same p q (a + 1) n (λ v l. same v (omega arith))) refl
+filter_same p q a (suc n) same = search (rules, filter_same p q (a + 1) n (λ v l. same v (omega arith)))
 
 -- A mesh, a full cut and the marks of its nodes.
 pub to_marked : {faces : Faces} {cut marks : List Bool} → IsMesh faces → IsFullCut faces cut
@@ -50,8 +50,7 @@ table_of e table = rw (← e, length-map) table
 -- The cells of a patch stand row by row. Its corners, as they are read.
 module _ {faces : Faces} {cut : List Bool} {p : Rectangle} (is : IsPatchOf faces cut p) where
   pub rows : length p.cells ≡ (p.h - 1) * p.w + p.w
-  rows = let tall : p.h ≡ suc (p.h - 1) = omega (arith, is.placed.grid.tall) in
-      is.sized ∙ (ap (λ x. x * p.w) tall ∙ suc-mul (p.h - 1) p.w)
+  rows = search rules
 
   cell_at : (i j : ℕ) {cell place : ℕ} → cell ≡ get_or p.cells place cell → place ≡ j * p.w + i
       → j * p.w + i < length p.cells → cell ≡ cell_of p i j
@@ -65,13 +64,11 @@ module _ {faces : Faces} {cut : List Bool} {p : Rectangle} (is : IsPatchOf faces
 
   pub north_east : {cell place : ℕ} → cell ≡ get_or p.cells place cell → place ≡ length p.cells - 1
       → cell ≡ cell_of p (p.w - 1 - 0) (p.h - 1)
-  north_east e there = cell_at (p.w - 1 - 0) (p.h - 1) e (omega (arith, rows, is.placed.grid.wide))
-      (omega (arith, rows, is.placed.grid.wide))
+  north_east e there = search (rules, cell_at)
 
   pub north_west : {cell place : ℕ} → cell ≡ get_or p.cells place cell → place ≡ length p.cells - p.w
       → cell ≡ cell_of p 0 (p.h - 1 - 0)
-  north_west e there = let row : p.h - 1 - 0 ≡ p.h - 1 = omega arith in
-      rw row (cell_at 0 (p.h - 1) e (omega (arith, rows)) (omega (arith, rows, is.placed.grid.wide)))
+  north_west e there = search (rules, cell_at)
 
 -- The places at which the uses of a side begin.
 split_begins : {arcs : List Path} {uses : List SideArc} {line : List ℕ} {begins : ℕ → Bool} {used : List SideArc}
@@ -79,10 +76,7 @@ split_begins : {arcs : List Path} {uses : List SideArc} {line : List ℕ} {begin
     → begins (reach_in arcs used k) ≡ true
 split_begins split side zero l = split.first (omega (arith, (side.each 0 l).0))
 split_begins {arcs} {begins = begins} {used} split side (suc k) l =
-    let (low, is) = side.each k (omega arith) in
-    let long = ap (λ (u : SideArc). long_at arcs u.arc) is in
-    let at = split.step (reach_in arcs used k) low (split_begins split side k (omega arith)) in
-    ap (λ x. begins (reach_in arcs used k + x)) long ∙ at.next (omega (arith, (side.each (suc k) l).0, long))
+    grind (arith, side.each k, split.step (reach_in arcs used k), split_begins split side k, side.each (suc k) l)
 
 module _ {faces : Faces} {cut marks : List Bool} (marked : IsMarked faces cut marks) {m : ℕ} (far : darts faces ≤ m)
     {list : List ℕ} {arcs : List Path} {uses : List SideArc} {ps : List Rectangle} {face : ℕ → ℕ}
@@ -127,20 +121,19 @@ module _ {faces : Faces} {cut marks : List Bool} (marked : IsMarked faces cut ma
       slot_lies =
           let side = (all.each p lp).each way in
           let (low, is) = side.each k lk in
-          let line = is_line runs (placed p lp) way in
-          let split = side_split runs (placed p lp) way in
+          let line = is_line runs (placed p lp) _ in
+          let split = side_split runs (placed p lp) _ in
           let size = run_long mesh (border 0) (side_size (patch_at ps p) way) in
           let t_low : t < side_size (patch_at ps p) way = omega (arith, low, size) in
           let on = split_begins split side k lk in
-          let begun : (slot_use.arc < length arcs)
-          × LiesAt mesh (path_at arcs slot_use.arc).darts slot_use.forward 0 (border t) =
-          rw (is, entry runs (placed p lp) way t t_low)
-          (runs.begin (border t) (line.low t t_low) (line.on t t_low) on) in
+          let begun : (slot_use.arc < length arcs) × LiesAt mesh (path_at arcs slot_use.arc).darts slot_use.forward 0
+          (border t) = rw (is, entry runs (placed p lp) way t t_low) (runs.begin (border t) (line.low t t_low)
+          (line.on t t_low) on) in
           let fits = (split.step t low on).fits in
           let long = ap (λ (u : SideArc). long_at arcs u.arc) is in (
             begun.0,
-            λ o lo. rw (line_easts _ marked.laws _ marked.full _ marked.stand border _ line t o
-                (omega (arith, fits, long, lo, size))) at ((arc_use runs _ _ (border t) begun.0 begun.1).lies o lo),
+            λ o lo. rw (line_easts _ marked.laws _ marked.full _ marked.stand _ _ line t o
+                (omega (arith, fits, long, lo, size))) at ((arc_use runs _ _ _ begun.0 begun.1).lies o lo),
           )
 
     pub is_layout : IsDartLayout (half_edges faces) (is_on cut) (is_node faces cut) face (vertex_count faces)
@@ -156,8 +149,7 @@ module _ {faces : Faces} {cut marks : List Bool} (marked : IsMarked faces cut ma
       };
       first_low = λ a l. (below.each a l).2.first_low;
       last_low = λ a l. (below.each a l).2.last_low;
-      first_at = λ a l. let (s, named, from) = below.each a l in
-          cc (run_entry mesh s (long_at arcs a) 0 named.run.some, from.darts, from.first_at);
+      first_at = λ a l. grind (arith, common_steps, below.each a l);
       last_at = λ a k l e. let (s, named, from) = below.each a l in
           cc (run_entry mesh s (long_at arcs a) k (omega arith), from.darts, from.last_at k e);
       sided = all.count;

@@ -1,4 +1,5 @@
 -- The uses of arcs: a side as it grows, and the table of where they begin.
+use Rattle.std.proofs.lemmas.Grind.{common_steps}
 use Rattle.std.proofs.Common.{rules, ◌≡◌, ◌⊎◌, ℕ, zero, suc, ◌+◌, ◌-◌, ◌<◌, ◌≤◌, Bool, true, false, List, [], ◌∷◌, ◌++◌}
 use Rattle.std.proofs.Common.{length, get_or, set, Option, Some, None, ◌∙◌, ap, refl, subst, inl, inr, arith}
 use Rattle.std.proofs.lemmas.List.{get_or_append_left, get_or_push, get_or-set_same, get_or-set_other, length_push}
@@ -54,8 +55,7 @@ module _ {faces : Faces} {cut marks : List Bool} (marked : IsMarked faces cut ma
   pub clash : (s n r m : ℕ) → IsNamedRun faces cut s n → IsNamedRun faces cut r m
       → twin_of faces (easts mesh r (m - 1)) ≡ Some s → ⊥
   clash s n r m one two tw =
-      let (b, back) = back_run _ marked.laws _ marked.full _ marked.stand r m two.run (m - 1) s
-      (omega (arith, two.run.some)) tw in
+      let (b, back) = back_run _ marked.laws _ marked.full _ marked.stand r m two.run (m - 1) s (omega arith) tw in
       let start : b ≡ s = cc (back.twin (m - 1) 0 (omega (arith, two.run.some))) in
       let same = same_length _ marked.laws _ marked.full _ marked.stand s n m one.run (rw start at back.run) in
       let (i, li, of_r) = name_dart marked r m two in
@@ -87,11 +87,7 @@ module _ {faces : Faces} {cut marks : List Bool} (marked : IsMarked faces cut ma
     one_way a b e la lb p q =
         let (s, one, is) = named.each a la in
         let (r, two, also) = named.each b lb in
-        let last : long_at arcs b - 1 - 0 ≡ long_at arcs b - 1 = omega arith in
-        clash s _ r _ one two (cc (
-          run_entry mesh s (long_at arcs a) 0 one.run.some,
-          run_entry mesh r (long_at arcs b) (long_at arcs b - 1) (omega (arith, two.run.some)),
-        ))
+        clash s _ r _ one two (grind (arith, common_steps, run_entry mesh r (long_at arcs b) (long_at arcs b - 1)))
 
     -- A dart begins one use alone.
     one_use : (a b e : ℕ) (f g : Bool) → a < length arcs → b < length arcs → LiesAt mesh (path_at arcs a).darts f 0 e
@@ -200,17 +196,11 @@ module _ {faces : Faces} {cut marks : List Bool} (marked : IsMarked faces cut ma
   -- The list of arcs is one of named runs.
   pub to_named : {nodes : List ℕ} {m : ℕ} {arcs : List Path} → AreArcsBelow faces cut nodes m arcs
       → AreNamed faces cut arcs
-  to_named so = record {
-    each = λ a l. let (s, named, from) = so.each a l in (s, named, from.darts);
-    ordered = so.ordered;
-  }
+  to_named so = record { each = λ a l. grind (arith, so.each a l); ordered = so.ordered }
 
   -- There are no more arcs than darts, since their names differ.
   pub arcs_few : {nodes : List ℕ} {m : ℕ} {arcs : List Path} → AreArcsBelow faces cut nodes m arcs → length arcs ≤ m
-  arcs_few {m = m} {arcs = arcs} so = elim (cases_lt m (length arcs)) [
-    | inl more ↦ absurd (omega (arith, high m more, so.below m more))
-    | inr few ↦ few
-  ]
+  arcs_few {m = m} {arcs = arcs} so = grind (arith, high m)
     where
       high : (a : ℕ) → a < length arcs → a ≤ name_at arcs a
       high zero l = omega arith

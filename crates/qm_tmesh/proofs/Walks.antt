@@ -1,4 +1,5 @@
 -- The loops over fans, runs and names, turn by turn.
+use Rattle.std.proofs.lemmas.Grind.{common_steps}
 use Rattle.std.proofs.lemmas.List.{get_or-set_same, get_or-set_other, get_or_append_left, get_or_push, length-set}
 use Rattle.std.proofs.Common.{rules, ◌≡◌, ℕ, ◌+◌, ◌<◌, ◌≤◌, Bool, true, false, cond, List, [], ◌∷◌, ◌++◌, length}
 use Rattle.std.proofs.Common.{get_or, set, Some, option_map, sym, ◌∙◌, ap, refl, inl, inr, arith, length-append}
@@ -18,10 +19,7 @@ use Rattle.{std.specs.List.range_with_len, mesh_laws.proofs.Chains.is_fan, mesh_
 pub push_each : {X : Type 0} (P : ℕ → X → Type 0) (xs : List X) (y d : X)
     → ((k : ℕ) → k < length xs → P k (get_or xs k d)) → P (length xs) y
     → (k : ℕ) → k < length (xs ++ y ∷ []) → P k (get_or (xs ++ y ∷ []) k d)
-push_each P xs y d each here k l = elim (last_or (length xs) k (omega (arith, length_push xs y))) [
-  | inl b ↦ rw (get_or_append_left xs (y ∷ []) d k b) (each k b)
-  | inr e ↦ rw (e, get_or_push xs y d (length xs) refl) here
-]
+push_each P xs y d each here k l = grind (arith, common_steps, each k)
 
 -- The darts of a fan are darts.
 pub fan_low : (faces : Faces) (v : ℕ) (fan : List ℕ) → fan ≡ fan_of faces v → (k : ℕ) → k < length fan
@@ -73,17 +71,13 @@ module _ {faces : Faces} {cut nodes : List Bool} (marked : IsMarked faces cut no
     -- It names its arc where its least dart is less than all twins.
     pub run_named : ((k t : ℕ) → k < length list → twin_of faces (get_or list k 0) ≡ Some t → least_of list < t)
         → IsNamedRun faces cut s (length list)
-    run_named less = record {
-      run = run;
-      named = λ k t l tw. rw (← is) (less k t l (ap (twin_of faces) (dart_is k l) ∙ tw));
-    }
+    run_named less = search (rules, ← is, dart_is)
 
     pub run_unnamed : (k : ℕ) × (t : ℕ) × (k < length list) × (twin_of faces (get_or list k 0) ≡ Some t)
         × (t ≤ least_of list) → (n : ℕ) → IsNamedRun faces cut s n → ⊥
     run_unnamed (k, t, l, tw, le) n named =
         let same = same_length _ marked.laws _ marked.full _ marked.stand s (length list) n run named.run in
-        let name : least_of list ≡ run_name mesh s n = cc in
-        omega (arith, le, named.named k t (omega (arith, same)) (cc (dart_is k l)))
+        grind (arith, common_steps, named.named k t, dart_is k l)
 
     pub run_darts : (k : ℕ) → k < length list → get_or list k 0 < darts faces
     run_darts k l = search (rules, dart_is, run_low)
@@ -92,8 +86,7 @@ module _ {faces : Faces} {cut nodes : List Bool} (marked : IsMarked faces cut no
   pub name_dart : (s n : ℕ) → IsNamedRun faces cut s n → (k : ℕ) × (k < n) × (easts mesh s k ≡ run_name mesh s n)
   name_dart s n named =
       let (k, l, e) = least_there (run_list mesh s n) (omega (arith, run_long mesh s n, named.run.some)) in
-      let lk : k < n = omega (arith, l, run_long mesh s n) in
-      (k, lk, cc (run_entry mesh s n k lk))
+      grind (arith, run_long mesh s n, run_entry mesh s n k)
 
   pub name_low : (s n : ℕ) → IsNamedRun faces cut s n → run_name mesh s n < darts faces
   name_low s n named = let (k, l, e) = name_dart s n named in
@@ -113,11 +106,7 @@ module _ {faces : Faces} {cut nodes : List Bool} (marked : IsMarked faces cut no
       → IsNamedRun faces cut s n → run_name mesh s n ≡ name → AreStarts faces cut (s + 1) (set starts name s)
   starts_more {s} {n} {name} {starts} ls so named is = record {
     long = length-set starts name s ∙ so.long;
-    right = λ m l ne. elim (cases_eq m name) [
-      | inl e ↦ rw (e, here) (n, named, is)
-      | inr other ↦ let same = get_or-set_other starts name m s 0 other in
-          rw same (so.right m (omega (arith, length-set starts name s)) (λ q. ne (same ∙ q)))
-    ];
+    right = λ m l ne. search (rules, cases_eq m name, so.right m);
     first = λ r k l other. elim (cases_eq (run_name mesh r k) name) [
       | inl e ↦ rw (e, here) (same_named _ marked.laws _ marked.full _ marked.stand s n r k named other (cc)).0
       | inr ne ↦ get_or-set_other starts name (run_name mesh r k) s 0 ne ∙ elim (last_or s r l) [
@@ -145,20 +134,8 @@ pub list_more : {p : ℕ → Bool} {v : ℕ} {list places more new : List ℕ} �
 list_more {p} {v} {list} {places} i put is = record {
   listed = is ∙ (ap (λ xs. xs ++ cond (p v) (v ∷ []) []) i.listed ∙ sym (filter_range_more p v));
   few = omega (arith, i.few, ap length is, length-append list (cond (p v) (v ∷ []) []), short (p v));
-  long = ap length put ∙ (length_push places (length list) ∙ omega (arith, i.long));
-  stands = λ u l pu. elim (last_or v u l) [
-    | inl less ↦
-        let s = i.stands u less pu in
-        let tail = cond (p v) (v ∷ []) [] in
-        rw (put, is, get_or_append_left places (length list ∷ []) 0 u (omega (arith, i.long))) (
-          omega (arith, s.0, length-append list tail),
-          get_or_append_left list tail 0 (get_or places u 0) s.0 ∙ s.1,
-        )
-    | inr e ↦
-        let on : p v ≡ true = rw e at pu in
-        rw (e, put, is, on, get_or_push places (length list) 0 v i.long)
-        (omega (arith, length_push list v), get_or_push list v 0 (length list) refl)
-  ];
+  long = ap length put ∙ (length_push _ _ ∙ omega (arith, i.long));
+  stands = λ u l pu. grind (arith, common_steps, i.stands u);
 }
   where
     short : (b : Bool) → length (cond b (v ∷ []) []) ≤ 1

@@ -66,24 +66,23 @@ pub blend_within : (s t : ℕ) (a b c d least greatest : ℤ) → s ≤ ONE → 
     → least ≤ℤ a → least ≤ℤ b → least ≤ℤ c → least ≤ℤ d → a ≤ℤ greatest → b ≤ℤ greatest → c ≤ℤ greatest → d ≤ℤ greatest
     → (least ≤ℤ blend s t a b c d) × (blend s t a b c d ≤ℤ greatest)
 blend_within s t a b c d least greatest s_le t_le a_low b_low c_low d_low a_high b_high c_high d_high = quotient_within
-    (((((pos ((ONE - s) * (ONE - t)) *ℤ a) +ℤ (pos (s * (ONE - t)) *ℤ b)) +ℤ
-    ((pos ((ONE - s) * t) *ℤ c) +ℤ (pos (s * t) *ℤ d)))) +ℤ pos (2 ^ 63)) least greatest (2 ^ 64) (omega arith) (omega (
+    _ _ _ _ (omega arith) (omega (
       arith,
       ints,
       total least,
-      times_le ((ONE - s) * (ONE - t)) least a a_low,
-      times_le (s * (ONE - t)) least b b_low,
-      times_le ((ONE - s) * t) least c c_low,
-      times_le (s * t) least d d_low,
+      times_le ((ONE - s) * (ONE - t)) _ a a_low,
+      times_le (s * (ONE - t)) _ b b_low,
+      times_le ((ONE - s) * t) _ c c_low,
+      times_le (s * t) _ d d_low,
     ))
     (omega (
       arith,
       ints,
       total greatest,
-      times_le ((ONE - s) * (ONE - t)) a greatest a_high,
-      times_le (s * (ONE - t)) b greatest b_high,
-      times_le ((ONE - s) * t) c greatest c_high,
-      times_le (s * t) d greatest d_high,
+      times_le ((ONE - s) * (ONE - t)) a _ a_high,
+      times_le (s * (ONE - t)) b _ b_high,
+      times_le ((ONE - s) * t) c _ c_high,
+      times_le (s * t) d _ d_high,
     ))
   where
     weights : ((ONE - s) * (ONE - t) + s * (ONE - t)) + ((ONE - s) * t + s * t) ≡ 2 ^ 64
@@ -94,8 +93,7 @@ blend_within s t a b c d least greatest s_le t_le a_low b_low c_low d_low a_high
 
     total : (z : ℤ) → ((pos ((ONE - s) * (ONE - t)) *ℤ z) +ℤ (pos (s * (ONE - t)) *ℤ z)) +ℤ
         ((pos ((ONE - s) * t) *ℤ z) +ℤ (pos (s * t) *ℤ z)) ≡ pos (2 ^ 64) *ℤ z
-    total z = (search (rules, sum_times)) ∙ sym
-        (sum_times ((ONE - s) * (ONE - t) + s * (ONE - t)) ((ONE - s) * t + s * t) z) ∙ ap (λ n. pos n *ℤ z) weights
+    total z = (search (rules, sum_times)) ∙ sym (sum_times _ _ z) ∙ ap (λ n. pos n *ℤ z) weights
 
 -- A quotient of naturals is at most a number whose product is not less.
 pub div_most : (n k d : ℕ) → 0 < d → n ≤ k * d → n / d ≤ k
@@ -104,8 +102,7 @@ div_most n k d some le = search rules
 module _ {l : Gluing} {old new : Lengths} {spacing : ArcSpacing} (laid : IsSurface l) (o_len : AreLengths l old)
     (n_len : AreLengths l new) (spaced : IsSpacing l old new spacing) where
   arc_most : (a : ℕ) (forward : Bool) (k : ℕ) → a < l.arcs → k ≤ new a → spacing.parameter_of a forward k ≤ ONE * old a
-  arc_most a forward k a_low le =
-      search (rules, cases_eq k (new a), spaced.ends a forward, spaced.below a forward k)
+  arc_most a forward k a_low le = grind (arith, cases_eq k (new a))
 
   -- Parameters of places of a side are at most that of its end.
   sides_most : (p : ℕ) (s : Way) (t : ℕ) → p < l.patches → t < size l new p s → (parameter l old new spacing p s t ≤ ONE
@@ -121,34 +118,29 @@ module _ {l : Gluing} {old new : Lengths} {spacing : ArcSpacing} (laid : IsSurfa
 
   -- A mean of parameters is no greater.
   mean_most : (a b m h j : ℕ) → 0 < h → j ≤ h → a ≤ m → b ≤ m → (a * (h - j) + b * j) / h ≤ m
-  mean_most a b m h j some le a_le b_le =
-      let by_parts : (k : ℕ) → k + j ≡ h → a * k + b * j ≤ m * h =
-      λ k s. omega (arith, mul-le a k m k a_le (omega arith), mul-le b j m j b_le (omega arith), ap (λ n. m * n) s) in
-      div_most _ m h some (by_parts (h - j) (omega arith))
+  mean_most a b m h j some le a_le b_le = grind (arith, mul-le b j m j b_le, div_most)
 
   place_within : (at : Coordinate) (least greatest : ℤ) → ((a : Point) → IsPoint l old a → (least ≤ℤ at a)
       × (at a ≤ℤ greatest)) → (a : Point) → IsPoint l new a → (least ≤ℤ place_of l old new spacing at a)
       × (place_of l old new spacing at a ≤ℤ greatest)
-  place_within at least greatest bound (node n) is = bound (node n) is
+  place_within at least greatest bound (node n) is = bound _ is
   place_within at least greatest bound (along a k) is =
       let step : Step = spacing.step a k in
       let ends = edge_points l _ laid o_len (on_arc a _) (is.0, spaced.edges a k is.0 is.2) in
       let part : step.some < step.parts = spaced.parts a k is.0 is.2 in
-      let p = bound (arc_point l old a step.edge) ends.0 in
-      let q = bound (arc_point l old a (step.edge + 1)) ends.1 in
+      let p = bound _ ends.0 in
+      let q = bound _ ends.1 in
       way_within _ _ _ _ _ _ (omega (arith, part)) (omega (arith, part)) p.0 p.1 q.0 q.1
   place_within at least greatest bound (inside p i j) is =
       let u = parameter_u l old new spacing p i j in
       let v = parameter_v l old new spacing p i j in
-      let a = cell_at (wide l old p) u in
-      let b = cell_at (high l old p) v in
+      let a = cell_at _ u in
+      let b = cell_at _ v in
       let w_some = wide_some l _ laid.paved o_len p is.0 in
       let h_some = high_some l _ laid.paved o_len p is.0 in
-      let corner = λ (w : Way). bound (dart_start l old (dart p a b w)) (from_is l _ laid o_len (dart p a b w)
-      (search rules)) in
+      let corner = λ (w : Way). bound _ (from_is l _ laid o_len (dart p a b w) (search rules)) in
       let north_le = (sides_most p north (wide l new p - i) is.0 (omega (arith, is.1, is.2, n_len.across p is.0))).1 in
-      let u_most : u ≤ ONE * wide l old p = mean_most _ _ _ _ j (omega arith) (omega arith)
-      (sides_most p _ i is.0 is.2).0 (omega (arith, o_len.across p is.0, north_le)) in
+      let u_most : u ≤ ONE * wide l old p = grind (arith, mean_most, sides_most p) in
       let east_le = (sides_most p east j is.0 (omega (arith, is.4, n_len.upright p is.0))).0 in
       let v_most : v ≤ ONE * high l old p = mean_most _ _ _ _ i (omega arith) (omega arith)
       (sides_most p _ _ is.0 (omega arith)).1 (omega (arith, o_len.upright p is.0, east_le)) in
@@ -166,8 +158,7 @@ module _ (l : Gluing) (x : Lengths) where
   simple_from undoubled = record {
     same = λ e f is_e is_f s t. one e f is_e is_f (inl (cc, cc));
     crossed = λ e f is_e is_f s t. one e f is_e is_f (inr (cc, cc));
-    no_loop = λ e is s. undoubled (vertex_number l x (edge_start l x e)) (vertex_number l x (edge_start l x e))
-        (omega arith, inl (refl, (e, is, inl (refl, ap (vertex_number l x) (sym s)))));
+    no_loop = λ e is s. undoubled _ _ (omega arith, inl (refl, (e, is, inl (refl, ap (vertex_number l x) (sym s)))));
   }
     where
       one : (e f : Edge) → IsEdge l x e → IsEdge l x f

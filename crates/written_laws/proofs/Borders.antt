@@ -100,10 +100,7 @@ module _ (l : Gluing) (x : Lengths) where
 
     pub spot_is : {w : Slot} {o : ℕ} (b : Bool) → IsSlot l w → o < x (use_of l w).arc → (b ≡ true → 0 < place_at l x w
         o) → IsDart l x (spot_dart l x w o b) × IsSpot (spot_dart l x w o b) w o b
-    spot_is {w} {o} b is less some =
-        let low = at_low laid.paved len o is less in
-        let here : IsDart l x (spot_dart l x w o b) = search (rules, rim_is, at_is laid.paved len w o) in
-        (here, record { is_slot = is; low = less; dart = refl; behind = some })
+    spot_is {w} {o} b is less some = grind (arith, at_is laid.paved len w o)
 
     pub inner_from : (d : CellDart) → IsInner laid.paved len d.patch (column_of d) (row_of d)
         → dart_start l x d ≡ inside d.patch (column_of d) (row_of d)

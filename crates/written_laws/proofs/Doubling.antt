@@ -20,9 +20,7 @@ use Rattle.sum_laws.proofs.Sums.{count_below_times}
 -- A side is no shorter than the arcs.
 side_least : {l : Gluing} {x : Lengths} → IsSurface l → AreLengths l x → {k : ℕ} → ((a : ℕ) → a < l.arcs → k ≤ x a)
     → (p : ℕ) (s : Way) → p < l.patches → k ≤ size l x p s
-side_least {l} {x} laid len least p s low =
-    let first = first_slot l x laid.paved len p s low in
-    omega (arith, reach_low l x (slot p s 0) first, least (l.use_at p s 0).arc (laid.paved.arc_low (slot p s 0) first))
+side_least {l} {x} laid len least p s low = grind (arith, reach_low l x (slot p s 0), laid.paved.arc_low (slot p s 0))
 
 module _ {l : Gluing} {x : Lengths} (laid : IsSurface l) (len : AreLengths l x) (open_l : IsOpen l x) where
   side_two : (p : ℕ) (s : Way) → p < l.patches → 2 ≤ size l x p s
@@ -179,9 +177,7 @@ module _ (l : Gluing) (y : Lengths) where
 
   side_odd : (p : ℕ) (s : Way) (t : ℕ) → p < l.patches → t < size l y p s
       → side_point l (scale 2 y) p s (2 * t + 1) ≡ middle (border_course l y p s t).edge
-  side_odd p s t low less =
-      let on = place_on l y p s t low less in
-      search (rules, side_half p s t 1, use_inner, on.inside)
+  side_odd p s t low less = search (rules, place_on, side_half)
 
   middle_same : (a k b m : ℕ) → along a (2 * k + 1) ≡ along b (2 * m + 1) → on_arc a k ≡ on_arc b m
   middle_same a k b m s = search rules
@@ -236,18 +232,16 @@ module _ (l : Gluing) (y : Lengths) where
         let is : i / 2 < wide l y p → (w : Way) → IsDart l y (dart p (i / 2) 0 w) = search rules in
         let at = is (omega arith) in
         let apart = ends_differ laid len simple (at west) in
-        elim (opposite p south north i _ _ low refl (len.across p low) columns some less
+        elim (opposite p _ _ i _ _ low refl (len.across p low) columns some less
         (same ∙ point_north l _ laid z_len p i low (sym two))) [
-          | inl (e, points) ↦ apart (cc (point_north l y laid len p (i / 2) low (sym one)))
-          | inr (o, edges) ↦ no_shared_edge (at south) (at north) (search rules)
-              (λ s. ends_differ laid len simple (at east) (sym s)) (search rules)
+          | inl (e, points) ↦ apart (cc (point_north l y laid len p _ low (sym one)))
+          | inr (o, edges) ↦ search (rules, no_shared_edge (at south) (at north), ends_differ laid len simple (at east))
         ]
 
     simple_twice : IsSimple l (scale 2 y)
     simple_twice = simple_open laid z_len (record {
       two = λ a low. omega (arith, len.some a low);
-      arcs_open = λ a low e s. let one : 1 ≡ y a = omega arith in
-          simple.no_loop (on_arc a 0) (low, omega arith) (cc (arc_last l y a 1 one (omega arith)));
+      arcs_open = λ a low e s. grind (arith, simple.no_loop (on_arc a 0) (low, omega arith));
       across = across_open;
       upright = upright_open;
     })
@@ -255,12 +249,7 @@ module _ (l : Gluing) (y : Lengths) where
 module _ {l : Gluing} {x : Lengths} (laid : IsSurface l) (len : AreLengths l x) where
   -- Lengths of at least 3 double no edge.
   pub simple_three : ((a : ℕ) → a < l.arcs → 3 ≤ x a) → IsSimple l x
-  simple_three three = simple_open laid len (record {
-    two = λ a low. omega (arith, three a low);
-    arcs_open = λ a low e s. omega (arith, three a low);
-    across = λ p j low e some less s. omega (arith, side_least laid len three p south low);
-    upright = λ p i low e some less s. omega (arith, side_least laid len three p west low);
-  })
+  simple_three three = simple_open laid len (grind (arith, side_least laid len three))
 
 -- Multiples of lengths that double no edge.
 pub simple_multiple : (l : Gluing) (y : Lengths) → IsSurface l → AreLengths l y → IsSimple l y → (k : ℕ) → 0 < k

@@ -105,9 +105,7 @@ module _ {l : Gluing} {x : Lengths} (paved : HasWholeSides l) (len : AreLengths 
     where
       by_side : (b : Bool) → (b ≡ true → 0 < place_at l x w o) → R (spot_dart l x w o b) (slot_dart l x w o)
       by_side false some = turning.self _ _ refl
-      by_side true some =
-          let r = rim_within paved len _ _ _ s.is_slot.patch_low (some refl) (at_low l x paved len o s.is_slot s.low) in
-          search rules
+      by_side true some = grind (arith, rim_within paved len, at_low l x paved len o s.is_slot s.low)
 
   -- so for the dart after the last one of an arc and the first one of the next arc.
   pub before_related : (w : Slot) → IsSlot l w
@@ -122,13 +120,12 @@ module _ {l : Gluing} {x : Lengths} (paved : HasWholeSides l) (len : AreLengths 
   to_south : (p c r : ℕ) (w : Way) → IsDart l x (dart p c r w) → IsInner paved len p (column c w) (row r w)
       → R (dart p c r w) (dart p (column c w) (row r w) south)
   to_south p c r south d n = turning.self _ _ refl
-  to_south p c r west d n = turning.inner (dart p c r west) d (d.patch_low, d.i_low, n.b_some, n.b_low)
+  to_south p c r west d n = turning.inner _ d (d.patch_low, d.i_low, n.b_some, n.b_low)
   to_south p c r north d n = north_on p c r d n
   to_south p c r east d n =
       let e : r - 1 + 1 ≡ r = omega (arith, n.b_some) in
       let ahead = north_on p c (r - 1) (search rules) (rw e n) in
-      turning.on _ (dart p c (r - 1) north) _
-      (turning.inner (dart p c r east) d (d.patch_low, d.i_low, n.b_some, n.b_low)) (rw e at ahead)
+      grind (arith, turning.inner (dart p c r east) d (d.patch_low, d.i_low, n.b_some, n.b_low))
 
 module _ {l : Gluing} {x : Lengths} (laid : IsSurface l) (len : AreLengths l x) {R : CellDart → CellDart → Type 0}
     (turning : IsTurning l x R) where

@@ -78,11 +78,10 @@ module _ {l : Gluing} {x : Lengths} (laid : IsSurface l) (len : AreLengths l x) 
   joins : IsTurning l x AreJoined
   joins = record {
     self = λ d e same. (zero, ap (dart_number l x) same);
-    on = λ d c e a b. chain_join _ _ _ _ a.0 b.0 a.1 b.1;
-    back = λ d e is a. chain_back _ _ _ a.0 (dart_low l x d is) a.1;
+    on = λ d c e a b. chain_join _ _ _ _ _ _ a.1 b.1;
+    back = λ d e is a. chain_back _ _ _ _ (dart_low l x d is) a.1;
     inner = λ d is i. join is (across_within laid len (prev d) i);
-    over = λ w v o is other less. join (next_is l x (slot_dart l x w o) (at_is l x laid.paved len w o is less))
-        (rw (prev_next (slot_dart l x w o)) (across_border laid len w v o is other less));
+    over = search (rules, join, next_is l x, at_is l x laid.paved len, prev_next, across_border laid len);
   }
 
   -- New darts that leave one vertex leave one point.
@@ -124,8 +123,7 @@ module _ {l : Gluing} {x : Lengths} (laid : IsSurface l) (len : AreLengths l x) 
               elim (sees l x laid.paved len is_next) [
                 | inl j ↦ search (rules, not_on_arc, within_course)
                 | inr (v, k, b) ↦
-                    let there = sym (border_is l x laid len b) ∙ back ∙ ap against here in
-                    search (rules, laid.no_fold v b.is_slot, corner_slots laid.paved len d a b)
+                    grind (arith, border_is l x laid len b, laid.no_fold v b.is_slot, corner_slots laid.paved len d a b)
               ]
         ]
 

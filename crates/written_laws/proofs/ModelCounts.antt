@@ -74,8 +74,7 @@ module _ (l : Gluing) (x : Lengths) (laid : IsSurface l) (len : AreLengths l x) 
 
   -- The new faces are a model.
   pub new_quads : (f : ℕ) → f < length (new_faces l x) → length (face_at (new_faces l x) f) ≡ 4
-  new_quads f low = ap (λ (face : Face). length face)
-      (get_or-map-range_with_len (new_face l x) 0 (face_count l x) f f [] (omega (arith, faces_long l x)) (omega arith))
+  new_quads f low = grind (arith, get_or-map-range_with_len (new_face l x) 0 (face_count l x) f f [], faces_long l x)
 
   pub new_model : IsSimple l x → IsModel (new_faces l x) l x laid len (dart_number l x)
   new_model simple = record {
@@ -96,8 +95,7 @@ module _ (l : Gluing) (x : Lengths) (laid : IsSurface l) (len : AreLengths l x) 
 count_sums : (f g h k : ℕ → ℕ) (n : ℕ) → ((p : ℕ) → p < n → f p + g p ≡ h p + k p + 1)
     → count_below f n + count_below g n ≡ count_below h n + count_below k n + n
 count_sums f g h k zero same = refl
-count_sums f g h k (suc n) same =
-    omega (arith, count_sums f g h k n (λ p l. same p (omega arith)), same n (omega arith))
+count_sums f g h k (suc n) same = search (rules, count_sums f g h k n (λ p l. same p (omega arith)))
 
 module _ (l : Gluing) (x : Lengths) (laid : IsSurface l) (len : AreLengths l x) where
   -- The dart across is across the other way round, and not the dart itself.
@@ -125,21 +123,18 @@ module _ (l : Gluing) (x : Lengths) (laid : IsSurface l) (len : AreLengths l x) 
     by_vertex : AreNumbers (IsDart l x) (λ d. from_of F (cell d)) (is_used F) (vertex_count F)
     by_vertex = record {
       each = λ d is. (all_below F _ (model.low d is), dart_used F _ model.quads (model.low d is));
-      onto = λ v low used. let k = used_dart F v model.quads used in let d = model.onto k.0 k.1 in
-          (d.0, d.1, cc);
+      onto = λ v low used. let k = used_dart F v model.quads used in grind (arith, model.onto k.0 k.1);
     }
 
     by_point : AreNumbers (IsDart l x) (λ d. vertex_number l x (dart_start l x d)) (λ k. true) (vertices l x)
     by_point = record {
       each = λ d is. (number_low l x _ (from_is l x laid len d is), refl);
-      onto = λ n low on. let a = point_onto l x n low in let d = point_dart l x laid len a.0 a.1 in
-          (d.0, d.1, cc);
+      onto = λ n low on. search (rules, point_onto l x n low, point_dart l x laid len);
     }
 
     pub used_is : used_count F ≡ vertices l x
     used_is = count_is by_vertex by_point (λ d e is_d is_e same. model.alike d e is_d is_e
-        (search (rules, number_same, from_is))) (λ d e is_d is_e same. ap (vertex_number l x)
-        (model.apart d e is_d is_e same))
+        (search (rules, number_same, from_is))) (λ d e is_d is_e same. grind (arith, model.apart d e is_d is_e same))
 
     -- The lesser dart of an edge, or the only one.
     abbrev IsLesser : (d : CellDart) → Type 0
@@ -180,10 +175,9 @@ module _ (l : Gluing) (x : Lengths) (laid : IsSurface l) (len : AreLengths l x) 
     }
 
     pub edges_are : edge_count F ≡ edge_total l x
-    edges_are = count_is by_lesser by_edge
-        (λ d e is_d is_e same. ap cell (search (rules, lesser_once, edge_same, course_is)))
-        (λ d e is_d is_e same.
-        ap (λ (c : CellDart). edge_number l x (course_of l x c).edge) (model.same d e is_d.0 is_e.0 same))
+    edges_are = count_is by_lesser by_edge (λ d e is_d is_e same. ap cell
+        (search (rules, lesser_once, edge_same, course_is)))
+        (λ d e is_d is_e same. grind (arith, model.same d e is_d.0 is_e.0 same))
 
     -- Faces, by their darts.
     by_cell : AreNumbers (IsDart l x) cell (λ k. true) (darts F)

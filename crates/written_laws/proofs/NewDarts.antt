@@ -68,8 +68,7 @@ module _ (l : Gluing) (x : Lengths) where
   pub dart_at : (d : CellDart) (w : Way) → IsDart l x d → dart_of l x (cell_number d) w ≡ dart d.patch d.i d.j w
   dart_at d w is =
       let here = cell_here (wide l x) (high l x) l.patches (cell_number d) (cell_low d is) in
-      let s = cell_once (wide l x) (high l x) l.patches here.0 (cell_of d is) here.1 in
-      λ t. dart (s.0 t) (s.1 t) (s.2 t) w
+      grind (arith, cell_once (wide l x) (high l x) l.patches here.0 (cell_of d is) here.1)
 
   -- Darts with one number are one.
   pub dart_same : (d e : CellDart) → IsDart l x d → IsDart l x e → dart_number d ≡ dart_number e → d ≡ e

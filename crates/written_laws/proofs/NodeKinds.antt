@@ -109,19 +109,17 @@ module _ {l : Gluing} {x : Lengths} {laid : IsSurface l} {len : AreLengths l x} 
     -- Where four turns lead back, the vertex is regular.
     cross_at : {d a b c : CellDart} → IsAcross l x laid len (prev d) a → IsAcross l x laid len (prev a) b → IsAcross l x
         laid len (prev b) c → IsAcross l x laid len (prev c) d → d ≢ b → is_regular F (from_of F (cell d)) ≡ true
-    cross_at {d} {a} {b} {c} i j k m apart = cross_regular F laws (cell d) (model.low d m.is_dart) (
-      cell a,
-      cell b,
-      cell c,
-      search (rules, turn_twin, model.same),
+    cross_at {d} {a} {b} {c} i j k m apart = grind (
+      arith,
+      cross_regular F laws (cell d) (model.low d m.is_dart)
+          (cell a, cell b, cell c, search (rules, turn_twin, model.same)),
     )
 
     pub inside_regular : (p i j : ℕ) (e : CellDart) → IsPoint l x (inside p i j) → IsDart l x e
         → dart_start l x e ≡ inside p i j → is_regular F (from_of F (cell e)) ≡ true
     inside_regular p i j e (p_low, i_some, i_low, j_some, j_low) is_e leaves =
         let is : IsDart l x (dart p i j south) = record { patch_low = p_low; i_low = i_low; j_low = j_low } in
-        let same = model.alike e (dart p i j south) is_e is (leaves
-        ∙ sym (point_inside l x laid len p i j i_some i_low j_some j_low)) in
+        let same = model.alike e _ is_e is (leaves ∙ sym (point_inside l x laid len p i j i_some i_low j_some j_low)) in
         rw same (cross_at (across_within laid len (dart p i j west) (p_low, i_some, i_low, j_low))
         (across_within laid len (dart p (i - 1) j south) (p_low, omega arith, j_some, j_low))
         (across_within laid len (dart p (i - 1) (j - 1) east) (p_low, omega arith, omega arith, omega arith))

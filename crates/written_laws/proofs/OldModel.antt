@@ -32,14 +32,7 @@ module _ (m : HalfEdges) (laws : IsQuadManifold m) (l : Gluing) (x : Lengths) (p
       → m.twin (cell (slot_dart l x w o)) ≡ Some (cell (slot_dart l x v (x (use_of l w).arc - 1 - o)))
   over_twin w v o is other less = elim (cases_Bool (use_of l w).forward) [
     | inl e ↦ let k_low = ap x other.1.arc in search rules
-    | inr e ↦
-        let k_low : x (use_of l w).arc - 1 - o < x (use_of l v).arc = omega (arith, ap x other.1.arc) in
-        let there = s.ahead v _ other.0 k_low (cc) in
-        cc (
-          other.1.arc,
-          laws.twin_twin (arc_dart (use_of l w).arc (x (use_of l w).arc - 1 - o))
-              (cell (slot_dart l x w o)) (search rules) (s.behind w o is less e),
-        )
+    | inr e ↦ search (rules, s.behind w o is less e)
   ]
 
   -- Darts of the mesh that leave one vertex.
@@ -124,8 +117,7 @@ module _ (m : HalfEdges) (laws : IsQuadManifold m) (l : Gluing) (x : Lengths) (p
   -- The mesh is a model of the gluing at these lengths, and the gluing has fans.
   alike : (d e : CellDart) → IsDart l x d → IsDart l x e → dart_start l x d ≡ dart_start l x e
       → m.from (cell d) ≡ m.from (cell e)
-  alike = point_related laid_in len from_turning
-      (λ v w is_v is_w same. starts v is_v ∙ ap vertex same ∙ sym (starts w is_w))
+  alike = point_related laid_in len from_turning (search (rules, starts))
 
   across_twin : (d e : CellDart) → IsDart l x d → IsAcross l x laid_in len d e → m.twin (cell d) ≡ Some (cell e)
   across_twin d e is a = laws.twin_found _ _ (s.low d is) (s.low e a.is_dart)
@@ -195,7 +187,7 @@ module _ (m : HalfEdges) (laws : IsQuadManifold m) (l : Gluing) (x : Lengths) (p
   slot_turn : {d e : CellDart} {w u : Slot} {b c : Bool} → IsDart l x d → IsDart l x e → IsSpot l x d w 0 b
       → IsSpot l x e u 0 c → m.twin (m.prev (cell d)) ≡ Some (cell e) → (w ≡ u) ⊎ IsTurn l w u
   slot_turn {d} {e} {w} {u} {b} is_d is_e at_w at_u twin =
-      let before = slot_before l w.patch w.side w.at in
+      let before = slot_before l _ _ w.at in
       let is_b = before_is l x paved len w at_w.is_slot in
       let last = slot_dart l x before (x (use_of l before).arc - 1) in
       let less : x (use_of l before).arc - 1 < x (use_of l before).arc = omega arith in
@@ -203,12 +195,11 @@ module _ (m : HalfEdges) (laws : IsQuadManifold m) (l : Gluing) (x : Lengths) (p
       elim (alike_or_turned b k) [
         | inl same ↦
             let here : prev d ≡ last = search (rules, prev_next) in
-            elim (s.other before is_b) [
+            elim (s.other _ is_b) [
               | inl (v, o) ↦
                   let zero_is : x (use_of l before).arc - 1 - (x (use_of l before).arc - 1) ≡ 0 = omega arith in
-                  let t = rw zero_is at (over_twin before v _ is_b o less) in
-                  let there = s.same e (slot_dart l x v 0) is_e (at_is l x paved len v 0 o.0 (some o.0))
-                  (cc (prev_cell d)) in
+                  let t = rw zero_is at (over_twin _ v _ is_b o less) in
+                  let there = s.same e _ is_e (at_is l x paved len v 0 o.0 (some o.0)) (cc (prev_cell d)) in
                   let at_e : IsSpot l x e v 0 false = search (rules, some) in
                   inr (record { is_slot = at_u.is_slot; reverse = rw (spot_once paved len at_u at_e).0 o.1 })
               | inr none ↦ search (rules, alone_twin, dart, alone, prev_cell)
@@ -217,9 +208,9 @@ module _ (m : HalfEdges) (laws : IsQuadManifold m) (l : Gluing) (x : Lengths) (p
           | inl on ↦ absurd (omega (arith, at_w.behind on, ap (reach l x w.patch w.side) (first (other ∙ ap not on))))
           | inr off ↦
               let far = spot.behind (other ∙ ap not off) in
-              let a = rim_turn laid_in len w 0 at_w.is_slot at_w.low far in
-              let t = across_twin (prev (slot_dart l x w 0)) _ (search (rules, prev_is, at_is)) a in
-              let one = s.same e (spot_dart l x w 0 true) is_e a.is_dart (cc (prev_cell d)) in
+              let a = rim_turn _ _ w 0 at_w.is_slot at_w.low far in
+              let t = across_twin _ _ (search (rules, prev_is, at_is)) a in
+              let one = s.same e _ is_e a.is_dart (cc (prev_cell d)) in
               let at_e : IsSpot l x e w 0 true = search rules in
               inl (sym (spot_once paved len at_u at_e).0)
         ]

@@ -52,9 +52,7 @@ module _ {faces : Faces} (man : IsManifold faces) {l : Gluing} {x : Lengths} (pa
     -- Each course is that of a dart or runs against it.
     by_dart : (k : Course) → IsEdge l x k.edge
         → (d : CellDart) × IsDart l x d × ((course_of l x d ≡ k) ⊎ (course_of l x d ≡ against k))
-    by_dart k is =
-        let (d, is_d, edge) = edge_dart l x here len k.edge is in
-        let ways = alike_or_turned k.ahead (course_of l x d).ahead in (d, is_d, search (rules, ways))
+    by_dart k is = search (rules, edge_dart l x here len k.edge is)
 
     pub old_simple : IsSimple l x
     old_simple = simple_by {l = l} {x = x} (λ c k is_c is_k starts ends.
@@ -137,8 +135,7 @@ module _ {faces : Faces} {l : Gluing} {x : Lengths} {vertex : ℕ → ℕ} (lies
     below : vertex_count (new_faces l y) ≤ vertices l y
     below = count_least _ _ (λ k low.
         let d = at_number l y the_laid lon k low in
-        let at = sym (number_from l y d.0 d.1) ∙ ap (from_of (new_faces l y)) d.2 in
-        omega (arith, number_low l y (dart_start l y d.0) (from_is l y the_laid lon d.0 d.1)))
+        grind (arith, number_from l y d.0 d.1, number_low l y (dart_start l y d.0) (from_is l y the_laid lon d.0 d.1)))
 
     regular : (v : ℕ) → v < vertex_count (new_faces l y) → is_regular (new_faces l y) v ≡ false
         → (v < l.nodes) × (is_regular faces (vertex v) ≡ false)

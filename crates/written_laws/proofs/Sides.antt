@@ -94,9 +94,7 @@ module _ (l : Gluing) (x : Lengths) where
 
     -- The slot at the beginning of a side is its first one.
     pub first_is : (v : Slot) → IsSlot l v → reach l x v.patch v.side v.at ≡ 0 → v.at ≡ 0
-    first_is v is none =
-        let at : 0 < v.at → suc (v.at - 1) ≡ v.at = λ some. omega arith in
-        search (rules, at, cases_eq v.at 0, use_some (slot v.patch v.side (v.at - 1)))
+    first_is v is none = grind (arith, use_some (slot v.patch v.side (v.at - 1)))
 
     -- The slot at the end of a side is its last one.
     pub last_is : (w : Slot) → IsSlot l w → size l x w.patch w.side ≤ reach l x w.patch w.side w.at + x (use_of l w).arc

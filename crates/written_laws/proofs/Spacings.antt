@@ -1,4 +1,5 @@
 -- Laws of runs laid end to end.
+use Rattle.std.proofs.lemmas.Grind.{common_steps}
 use Rattle.std.proofs.Common.{rules, ◌≡◌, ℕ, zero, suc, ◌+◌, ◌-◌, ◌*◌, ◌/◌, ◌%◌, ◌<◌, ◌≤◌, sym, ◌∙◌, ap, inl, inr}
 use Rattle.std.proofs.Common.{arith, Bool, true, false, refl, [], ◌≢◌, cond, ◌∷◌, length}
 use Rattle.std.proofs.lemmas.Bool.{cases_eq, cond-false, ne_eqb, cases_Bool}
@@ -53,8 +54,7 @@ run_here f n t h1 = search (rules, run_from, run_to, run_low)
 
 -- Places of runs are below the end.
 pub place_low : (f : ℕ → ℕ) (n k o : ℕ) → k < n → o < f k → count_below f k + o < count_below f n
-place_low f n k o l in_run =
-    let le : count_below f (suc k) ≤ count_below f n = count_rises f (suc k) n (omega arith) in omega arith
+place_low f n k o l in_run = grind (arith, count_rises f (suc k) n)
 
 -- A place lies in one run, and there at one place.
 pub place_same : (f : ℕ → ℕ) (n a k b o : ℕ) → a < n → b < n → k < f a → o < f b
@@ -86,9 +86,7 @@ module _ (w h : ℕ → ℕ) (n : ℕ) where
   pub cell_once : {p i j q c d : ℕ} → IsCell p i j → IsCell q c d → number_of p i j ≡ number_of q c d
       → (p ≡ q) × (i ≡ c) × (j ≡ d)
   cell_once {p} {i} {j} {q} {c} {d} a b same =
-      let s = place_same cells_of n p (j * w p + i) q (d * w q + c) a.low b.low (search (rules, mul-add-lt))
-      (search (rules, mul-add-lt)) same in
-      let r = same_from_place j i d c (w p) in search (rules, s, r)
+      grind (arith, place_same cells_of n p (j * w p + i) q (d * w q + c) a.low b.low, same_from_place j i d c (w p))
 
   -- Each number below the end is that of a place.
   abbrev pub block_at : (t : ℕ) → ℕ
@@ -168,9 +166,7 @@ module _ (l : Gluing) (old new : Lengths) (shares : Shares) (o_len : AreLengths 
 
   module _ (few : (a : ℕ) → a < l.arcs → new a ≤ ONE) where
     parameter_some : (a k : ℕ) → a < l.arcs → 0 < k → k ≤ new a → 0 < step_parameter (shared_step old new shares a k)
-    parameter_some a k low some le =
-        let all : 0 < count_below (counted (shares a) (old a)) (old a) = search (rules, o_len.some, count_ones) in
-        search (rules, o_len.some, inner_some (counted (shares a) (old a)) (old a) (new a) k, few)
+    parameter_some a k low some le = search (rules, count_ones, inner_some)
 
     begins_at : (a : ℕ) (forward : Bool) → a < l.arcs → shared_parameter old new shares a forward 0 ≡ 0
     begins_at a true low = refl
@@ -179,15 +175,12 @@ module _ (l : Gluing) (old new : Lengths) (shares : Shares) (o_len : AreLengths 
     below_end : (a : ℕ) (forward : Bool) (k : ℕ) → a < l.arcs → k < new a
         → shared_parameter old new shares a forward k < ONE * old a
     below_end a true k low less = omega (arith, (step_is a k low less).edge, (step_is a k low less).part)
-    below_end a false k low less =
-        omega (arith, parameter_some a (new a - k) low (omega (arith, less)) (omega arith), o_len.some a low)
+    below_end a false k low less = search (rules, parameter_some)
 
 pub even_law : EvenSpacingLaw
 even_law l old new o_len n_len = record {
   begins = search rules;
-  ends = λ a forward low.
-      let by_parts : (n m : ℕ) → ONE * n * m ≡ ONE * m * n + 0 = λ n m. omega (arith, mul_comm n m) in
-      cc (by_parts (new a) (old a), div-mul-add (ONE * old a) (new a) 0 (n_len.some a low));
+  ends = λ a forward low. grind (arith, div-mul-add (ONE * old a) (new a) 0 (n_len.some a low));
   below = search (rules, mul_comm, div_less);
   edges = even_edge l old new o_len n_len;
   parts = λ a k low less. mod-lt (k * old a) (n_len.some a low);
@@ -261,11 +254,7 @@ numbers_le {b} {p} {q} {m} {n} r s tells = passing_le p q m n (λ k low on. let 
 -- A filter keeps what passes.
 pub filter_long : (p : ℕ → Bool) (n : ℕ) → length (filter p (range_with_len 0 n)) ≡ passing p n
 filter_long p zero = refl
-filter_long p (suc n) =
-    let last : (b : Bool) → length (cond b (n ∷ []) []) ≡ one_if b = λ b. grind (arith) in
-    let one_more : suc n ≡ n + 1 = omega arith in
-    ap (λ m. length (filter p (range_with_len 0 m))) one_more ∙ ap length (filter_range_more p n)
-    ∙ length-append (filter p (range_with_len 0 n)) (cond (p n) (n ∷ []) []) ∙ (λ t. filter_long p n t + last (p n) t)
+filter_long p (suc n) = grind (arith, common_steps, filter_range_more p n, filter_long p n)
 
 -- So many things that pass are as many as the same things told by numbers below n.
 pub count_is : {X : Type 0} {P : X → Type 0} {a b : X → ℕ} {p : ℕ → Bool} {m n : ℕ} → AreNumbers P a p m

@@ -1,3 +1,4 @@
+use Rattle.std.proofs.lemmas.Grind.{common_steps}
 use Rattle.std.proofs.Common.{rules, ◌≡◌, ◌+◌, ◌-◌, ◌/◌, ◌^◌, ◌∙◌, length, refl, sym, ap, arith}
 use Rattle.std.proofs.{lemmas.Grind.get_or_default_zero, lemmas.List.length-replicate}
 use Rattle.qm_forest.proofs.Fresh.{same_everywhere}
@@ -6,8 +7,7 @@ pub returns-clause-ready : Rattle.qm_match.proofs.start.search_of.Goals.returns-
 returns-clause-ready c =
     let size : length c.in_ok-new.field-0 ≡ c.edge_count.result + (c.n-n.result / 2 + 1) = ap length c.in_ok-new.ensures
     ∙ length-replicate (c.edge_count.result + (c.n-n.result / 2 + 1)) (2 ^ 64 - 1) in
-    let halves : length c.args.forest.hand / 2 ≡ c.n-n.result / 2 =
-    ap (λ n. n / 2) (c.requires.valid.vertices ∙ sym c.n-n.ensures.value) in
+    let halves : length c.args.forest.hand / 2 ≡ c.n-n.result / 2 = search rules in
     record {
       vertices = c.requires.fans.vertices ∙ sym c.requires.valid.vertices;
       darts = c.requires.fans.darts ∙ sym c.requires.valid.darts;
@@ -19,11 +19,7 @@ returns-clause-ready c =
       marks = search rules;
       members = omega (arith, c.in_ok-with_capacity.ensures.capacity, c.requires.valid.vertices, c.n-n.ensures.value);
       parts = omega (arith, c.in_ok-with_capacity-2.ensures.capacity, c.requires.valid.vertices, c.n-n.ensures.value);
-      few = λ k l. omega (
-        arith,
-        same_everywhere (c.edge_count.result + (c.n-n.result / 2 + 1)) (2 ^ 64 - 1) c.in_ok-new.ensures k,
-        get_or_default_zero c.in_ok-new.field-0 k (2 ^ 64 - 1) l,
-      );
+      few = λ k l. grind (arith, common_steps);
       risen = refl;
       above = c.greatest_weight.ensures.above;
       attained = c.greatest_weight.ensures.attained;

@@ -1,11 +1,11 @@
+use Rattle.std.proofs.Common.{rules}
 use Rattle.std.proofs.{Common.◌≡◌, Common.arith, lemmas.Int.ints, lemmas.Int.to_z-of_z}
 use mir.{Val.to_z, Val.of_z, Syntax.w64}
 use Rattle.qm_match.proofs.Raised.{raised_room}
 
 pub returns-then-y-v : Rattle.qm_match.proofs.weights.raise.Goals.returns-then-y-v
 returns-then-y-v c =
-    let kept : to_z w64 (of_z w64 c.room_at-room.result) ≡ c.room_at-room.result =
-    to_z-of_z w64 c.room_at-room.result (record { sfits = c.room_at-room.type_inv }) in
+    let kept : to_z w64 (of_z w64 c.room_at-room.result) ≡ c.room_at-room.result = search rules in
     let ready = c.requires.ready in
     record {
       few = ready.few;

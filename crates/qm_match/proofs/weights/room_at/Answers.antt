@@ -1,3 +1,4 @@
+use Rattle.std.proofs.lemmas.Grind.{common_steps}
 use Rattle.std.proofs.Common.{rules, ◌≡◌, ◌-◌, get_or, arith}
 use Rattle.std.proofs.{lemmas.Int.ints, lemmas.List.get_or_read}
 use Rattle.qm_match.proofs.Chains.{passed_all, passed_more}
@@ -10,26 +11,19 @@ read : (c : After-index-entry-in-loop-entry) → c.index-entry-in-loop-entry.res
 read c = search (rules, get_or_read)
 
 pub loop-entry-smaller : goal.loop-entry-smaller
-loop-entry-smaller c = omega (
-  arith,
-  read (goal.at.loop-entry-smaller c).After-index-entry-in-loop-entry,
-  c.requires.fans.nexts (c.loop-entry.entry - 1),
-)
+loop-entry-smaller c = grind (arith, common_steps, c.requires.fans.nexts (c.loop-entry.entry - 1))
 
 pub loop-entry-preserved : goal.loop-entry-preserved
 loop-entry-preserved c =
     let next = read (goal.at.loop-entry-preserved c).After-index-entry-in-loop-entry in
     record {
-      few = omega (arith, ints, c.min-room.ensures.self_bound, c.loop-entry.invariant.few);
+      few = omega (arith, ints, c.loop-entry.invariant.few);
       low = omega (arith, c.requires.fans.nexts (c.loop-entry.entry - 1));
-      done = passed_more c.args.fans.now.next.items _ (omega arith) next
-          (λ d le. omega (arith, ints, c.min-room.ensures.self_bound)) (omega (
-            arith,
-            ints,
-            c.min-room.ensures.other_bound,
-            c.left_by-left.ensures.value,
-            c.left_by-left.ensures.small,
-          )) c.loop-entry.invariant.done;
+      done = passed_more _ _ (omega arith) next (λ d le. omega (arith, ints)) (omega (
+        arith,
+        ints,
+        c.left_by-left.ensures.small,
+      )) c.loop-entry.invariant.done;
     }
 
 pub returns : goal.returns

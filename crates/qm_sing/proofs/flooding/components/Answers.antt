@@ -12,9 +12,7 @@ pub flood-requires-clause-closed : goal.flood-requires-clause-closed
 flood-requires-clause-closed c = rw c.deref_mut.ensures.value (numbering_closed c.loop-f.invariant.numbering)
 
 pub overflow_add-components : goal.overflow_add-components
-overflow_add-components c =
-    let below = numbering_low c.loop-f.invariant.numbering (omega (arith, ap length c.faces-faces.ensures.value)) in
-    omega (arith, c.faces-faces.ensures.mesh.few, ap length c.faces-faces.ensures.value)
+overflow_add-components c = grind (arith, numbering_low c.loop-f.invariant.numbering)
 
 pub loop-f-preserved : goal.loop-f-preserved
 loop-f-preserved c =
@@ -24,16 +22,13 @@ loop-f-preserved c =
     let read = get_or_read c.loop-f.numbers.items c.loop-f.f c.index.result.now (omega (arith, n.long))
     c.index.ensures 0 in
     elim c.if-index.branch [
-      | then-index+in_ok-flood w ↦ rw (w.numbers-is, w.components-is, w.waiting-is) (record {
-        numbering = rw (with_items_is c.loop-f.numbers w.flood.new.numbers
-            (w.flood.auto.numbers ∙ w.deref_mut.ensures.len)) (numbering_more n lf (sym read ∙ w.if-index.true)
-            (rw w.deref_mut.ensures.value at w.in_ok-flood.ensures.flooded));
-        empty = w.in_ok-flood.ensures.empty;
-      })
-      | else-index w ↦ rw (w.numbers-is, w.components-is, w.waiting-is) (record {
-        numbering = numbering_skip n lf (λ e. w.if-index.false (read ∙ e));
-        empty = c.loop-f.invariant.empty;
-      })
+      | then-index+in_ok-flood w ↦ search (
+        rules,
+        with_items_is c.loop-f.numbers w.flood.new.numbers
+            (w.flood.auto.numbers ∙ w.deref_mut.ensures.len),
+        numbering_more n lf,
+      )
+      | else-index w ↦ grind (arith, numbering_skip n lf)
     ]
 
 pub returns-clause-numbers : goal.returns-clause-numbers

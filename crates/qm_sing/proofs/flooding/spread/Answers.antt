@@ -1,5 +1,5 @@
+use Rattle.std.proofs.Common.{arith}
 use Rattle.qm_sing.proofs.Floods.{spread_more}
 
 pub loop-i-preserved : Rattle.qm_sing.proofs.flooding.spread.Goals.loop-i-preserved
-loop-i-preserved c = rw (c.in_ok-look.ensures.numbers, c.in_ok-look.ensures.waiting)
-    (spread_more c.requires.number c.loop-i-test.true c.requires.face c.loop-i.invariant)
+loop-i-preserved c = grind (arith, spread_more c.requires.number c.loop-i-test.true c.requires.face c.loop-i.invariant)

@@ -7,8 +7,7 @@ use Rattle.{def_mesh.specs.Darts.darts}
 pub loop-d-preserved : Rattle.qm_sing.proofs.lines.runs.Goals.loop-d-preserved
 loop-d-preserved c =
     let low : c.loop-d.d < darts c.args.mesh.now = omega (arith, c.loop-d-test.true, ap length c.faces.ensures.value) in
-    let read = get_or_read c.loop-d.table.run.items c.loop-d.d c.index.result.now
-    (omega (arith, c.loop-d.invariant.run_long)) c.index.ensures 0 in
+    let read = get_or_read _ c.loop-d.d _ (omega (arith, c.loop-d.invariant.run_long)) c.index.ensures 0 in
     elim c.if-index.branch [
       | then-index+in_ok-push+in_ok-push-2 w ↦
           let many = length-map c.loop-d.invariant.lists length in

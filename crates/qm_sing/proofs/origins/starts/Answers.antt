@@ -1,4 +1,4 @@
-use Rattle.std.proofs.Common.{◌≡◌, ◌<◌, is_some, length, ap, ◌∙◌, sym, arith}
+use Rattle.std.proofs.Common.{rules, ◌≡◌, ◌<◌, is_some, length, ap, ◌∙◌, sym, arith}
 use Rattle.def_mesh.specs.{Darts.darts, Components.is_start, Components.seeds, declared.Kind.TheVariants.Regular}
 use Rattle.qm_sing.proofs.{Floods.filter_on, Floods.filter_off, origins.starts.Goals.then-may_start+in_ok-push}
 use Rattle.qm_sing.proofs.{Numberings.kind_read, Numberings.mark_test, Numberings.start_is}
@@ -10,12 +10,9 @@ loop-d-preserved c = let s = c.args.classed.now in
     let kind = kind_read _ _ c.from-v.result Regular c.from-v.ensures.vertex s.classes in
     let mark = mark_test c.faces.ensures.mesh.manifold c.args.marks.now c.from-v.result c.requires in
     let twin = c.is_some.ensures ∙ ap is_some c.twin.ensures.value in
-    let t : c.may_start.result ≡ is_start s.mesh.now (seeds s.mesh.now) c.loop-d.d = c.may_start.ensures
-    ∙ rw (kind, mark, twin, c.from-v.ensures.value) (start_is s.mesh.now c.loop-d.d ld) in
+    let t : c.may_start.result ≡ is_start s.mesh.now (seeds s.mesh.now) c.loop-d.d = search (rules, start_is) in
     let starts = is_start s.mesh.now (seeds s.mesh.now) in
     elim c.if-may_start.branch [
-      | then-may_start+in_ok-push w ↦ rw (w.starts-is, w.in_ok-push.ensures.items)
-          (filter_on starts c.loop-d.d (sym t ∙ w.if-may_start.true) c.loop-d.invariant)
-      | else-may_start w ↦
-          rw w.starts-is (filter_off starts c.loop-d.d (sym t ∙ w.if-may_start.false) c.loop-d.invariant)
+      | then-may_start+in_ok-push w ↦ search (rules, filter_on)
+      | else-may_start w ↦ search (rules, filter_off)
     ]

@@ -20,10 +20,7 @@ pub loop-d-preserved : goal.loop-d-preserved
 loop-d-preserved c = let s = c.args.classed.now in
     let ld : c.loop-d.d < darts s.mesh.now = omega (arith, c.loop-d-test.true, ap length c.faces.ensures.value) in
     let kind = kind_read _ _ c.from-v.result Regular c.from-v.ensures.vertex s.classes in
-    let number = number_read _ _ c.loop-d.d s.numbers in
-    let more = rings_more c.faces.ensures.mesh.manifold ld c.loop-d.invariant _ _ refl refl in
-    rw (c.take_corner.ensures.regular, c.take_corner.ensures.least) (rw (kind, regular_is s.mesh.now c.from-v.result)
-    (rw (number, c.from-v.ensures.value) more))
+    search (rules, rings_more, regular_is)
 
 pub returns : goal.returns
 returns c =

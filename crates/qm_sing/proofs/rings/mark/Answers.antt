@@ -1,4 +1,4 @@
-use Rattle.std.proofs.Common.{◌≡◌, ◌<◌, length, ap, sym, ◌∙◌, arith}
+use Rattle.std.proofs.Common.{rules, ◌≡◌, ◌<◌, length, ap, sym, ◌∙◌, arith}
 use Rattle.qm_sing.proofs.Numberings.{number_read, seed_test, marks_on, marks_off}
 use Rattle.qm_sing.{specs.Rings.is_seed, proofs.rings.mark.Goals.then-is_least, proofs.rings.mark.Goals.else-is_least}
 use Rattle.{def_mesh.specs.Vertices.vertex_count, def_mesh.specs.Darts.from_of, def_mesh.specs.Darts.darts}
@@ -6,9 +6,7 @@ use Rattle.{def_mesh.specs.Vertices.vertex_count, def_mesh.specs.Darts.from_of, 
 pub loop-d-preserved : Rattle.qm_sing.proofs.rings.mark.Goals.loop-d-preserved
 loop-d-preserved c = let s = c.args.classed.now in
     let ld : c.loop-d.d < darts s.mesh.now = omega (arith, c.loop-d-test.true, ap length c.faces.ensures.value) in
-    let t : c.is_least.result ≡ is_seed s.mesh.now (from_of s.mesh.now c.loop-d.d) =
-    c.is_least.ensures ∙ rw (number_read _ _ c.loop-d.d s.numbers, c.from-v.ensures.value) (seed_test
-    c.faces.ensures.mesh.manifold c.requires.rings c.loop-d.d (omega (arith, c.vertices-vertices.ensures.value)) ld) in
+    let t : c.is_least.result ≡ is_seed s.mesh.now (from_of s.mesh.now c.loop-d.d) = search (rules, seed_test) in
     let low : from_of s.mesh.now c.loop-d.d < vertex_count s.mesh.now =
     omega (arith, c.from-v.ensures.value, c.from-v.ensures.vertex) in
     elim c.if-is_least.branch [

@@ -1,3 +1,5 @@
+use Rattle.std.proofs.lemmas.Grind.{common_steps}
+use Rattle.std.proofs.Common.{rules}
 use Rattle.qm_tmesh.proofs.{Built.to_marked, Built.table_of, Built.have_patches, Built.is_layout, UseTables.to_named}
 use Rattle.def_cut.specs.{FullCut.is_on, Grids.rectangle, Grids.IsPartition, Steps.face_of}
 use Rattle.qm_tmesh.{proofs.UseTables.arcs_few, proofs.build.layout.Goals.In_ok-nodes, specs.Tables.IsMarked}
@@ -7,8 +9,7 @@ use Rattle.qm_tmesh.proofs.build.layout.Goals as goal
 
 -- The nodes are marked.
 marked : (c : In_ok-nodes) → IsMarked c.args.mesh.now c.as_slice-cut.result.now c.in_ok-nodes.nodes.marks.items
-marked c = to_marked c.in_ok-nodes.ensures.mesh (rw c.as_slice-cut.ensures.value c.requires.cut)
-    c.in_ok-nodes.ensures.marks
+marked c = search (rules, to_marked)
 
 parts : (c : In_ok-nodes) → IsPartition (half_edges c.args.mesh.now) (is_on c.as_slice-cut.result.now) face_of
     (map rectangle c.args.patches.items)
@@ -29,8 +30,7 @@ uses-requires-clause-arcs c = rw c.deref-4.ensures.value
 
 pub uses-requires-clause-few : goal.uses-requires-clause-few
 uses-requires-clause-few c =
-    let few = arcs_few (marked (goal.at.uses-requires-clause-few c).In_ok-nodes) c.in_ok-arcs.ensures in
-    rw c.deref-4.ensures.value (omega (arith, few, length-map c.in_ok-arcs.arcs.items path))
+    grind (arith, common_steps, arcs_few (marked (goal.at.uses-requires-clause-few c).In_ok-nodes) c.in_ok-arcs.ensures)
 
 pub sides-requires : goal.sides-requires
 sides-requires c =

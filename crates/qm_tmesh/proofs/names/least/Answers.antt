@@ -1,4 +1,4 @@
-use Rattle.std.proofs.Common.{get_or, inl, inr, arith}
+use Rattle.std.proofs.Common.{rules, get_or, inl, inr, arith}
 use Rattle.{std.proofs.lemmas.Bool.cases_lt, cut_laws.proofs.Classes.least_high, cut_laws.proofs.Classes.least_low}
 use Rattle.qm_tmesh.proofs.names.least.Goals as goal
 
@@ -14,8 +14,4 @@ loop-d-preserved c =
     }
 
 pub returns : goal.returns
-returns c =
-    let (k, low, is) = c.loop-d.invariant.among in
-    let least = least_low c.args.darts.now c.loop-d.least c.requires
-    (λ k l. c.loop-d.invariant.below k (omega (arith, c.loop-d-test.false))) in
-    omega (arith, least, least_high c.args.darts.now k low, is)
+returns c = search (rules, least_low, least_high)

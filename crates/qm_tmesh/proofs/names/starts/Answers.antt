@@ -7,11 +7,8 @@ pub index_mut-requires : goal.index_mut-requires
 index_mut-requires c = search (rules, name_low)
 
 pub loop-s-preserved : goal.loop-s-preserved
-loop-s-preserved c =
-    let low : c.loop-s.s < darts c.args.mesh.now = omega (arith, c.loop-s-test.true, c.requires.long) in
-    elim c.match-branch-3.branch [
-      | in-Some w ↦ let found = rw w.in-Some.is at c.in_ok-name.ensures in
-          rw w.starts-is (starts_more c.requires low c.loop-s.invariant found.1 found.2)
-      | in_default w ↦ rw w.starts-is (starts_skip c.requires c.loop-s.invariant
-          (rw w.in_default.is at c.in_ok-name.ensures))
-    ]
+loop-s-preserved c = elim c.match-branch-3.branch [
+  | in-Some w ↦ search (rules, starts_more)
+  | in_default w ↦ rw w.starts-is (starts_skip c.requires c.loop-s.invariant
+      (rw w.in_default.is at c.in_ok-name.ensures))
+]

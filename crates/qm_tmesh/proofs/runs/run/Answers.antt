@@ -1,4 +1,4 @@
-use Rattle.std.proofs.Common.{◌≡◌, suc, ◌+◌, is_some, ap, ◌∙◌, arith}
+use Rattle.std.proofs.Common.{rules, ◌≡◌, suc, ◌+◌, is_some, ap, ◌∙◌, arith}
 use Rattle.{def_cut.specs.Steps.step_east, def_mesh.specs.HalfEdges.half_edges}
 use Rattle.layout_laws.proofs.Runs.{walk_done, walk_never}
 use Rattle.qm_tmesh.proofs.Walks.{listed_more, told_end, walk_straight, walk_inner}
@@ -8,14 +8,9 @@ pub returns-then-nodes-to : goal.returns-then-nodes-to
 returns-then-nodes-to c =
     let s = c.args.start.now in
     let i = c.steps.invariant in
-    let m = c.requires.marked in
-    let (listed, long) = listed_more (half_edges s.mesh.now) s.dart c.steps.counter i.at i.listed
-    c.in_ok-push.ensures.items in
-    let ends = rw i.at at (told_end m c.steps.d c.to.ensures.value c.to.ensures.vertex c.if-nodes-to.true) in
-    rw long (record {
-      run = walk_done _ m.laws _ m.full _ m.stand s.dart c.steps.counter s.low s.on s.begins i.inner ends;
-      darts = listed;
-    })
+    let (listed, long) = listed_more (half_edges s.mesh.now) _ _ i.at i.listed c.in_ok-push.ensures.items in
+    let ends = rw i.at at (told_end c.requires.marked _ c.to.ensures.value c.to.ensures.vertex c.if-nodes-to.true) in
+    rw long (search (rules, walk_done))
 
 pub unwrap-d-requires : goal.unwrap-d-requires
 unwrap-d-requires c =

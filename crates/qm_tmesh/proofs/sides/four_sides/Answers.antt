@@ -1,4 +1,4 @@
-use Rattle.std.proofs.Common.{◌≡◌, ℕ, ◌-◌, map, refl, arith}
+use Rattle.std.proofs.Common.{rules, ◌≡◌, ℕ, ◌-◌, map, refl, arith}
 use Rattle.def_layout.specs.{Gluings.Way, Gluings.south, Gluings.east, Gluings.north, Gluings.west}
 use Rattle.def_layout.specs.{Arcs.path, Borders.border_dart, Borders.side_size}
 use Rattle.{def_cut.specs.Grids.rectangle, def_mesh.specs.HalfEdges.half_edges, qm_tmesh.specs.Four.HasSide}
@@ -7,10 +7,7 @@ use Rattle.qm_tmesh.proofs.sides.four_sides.Goals.{After-row_known-5-1}
 use Rattle.qm_tmesh.proofs.sides.four_sides.Goals as goal
 
 pub next-south_east-requires : goal.next-south_east-requires
-next-south_east-requires c =
-    let g = c.requires.1.placed.grid in
-    let e = south_east c.requires.1 c.index.ensures in
-    omega (arith, e, g.low (c.args.patch.now.w - 1) 0 (omega (arith, g.wide)) g.tall)
+next-south_east-requires c = search (rules, south_east c.requires.1 c.index.ensures)
 
 pub next-requires : goal.next-requires
 next-requires c =
@@ -40,10 +37,8 @@ begins : (c : After-row_known-5-1) (way : Way) → begin c way ≡ border_dart (
     (rectangle c.args.patch.now) way 0
 begins c south = south_west c.requires.1 c.index-4.ensures
 begins c east = cc (south_east c.requires.1 c.index.ensures)
-begins c north = cc (north_east c.requires.1 c.index-2.ensures
-    (omega (arith, c.len.ensures, c.args.patch.now.cells.ok.0)))
-begins c west = cc (north_west c.requires.1 c.index-3.ensures
-    (omega (arith, c.len-2.ensures, c.args.patch.now.cells.ok.0)))
+begins c north = cc (north_east c.requires.1 c.index-2.ensures (omega (arith, c.args.patch.now.cells.ok.0)))
+begins c west = cc (north_west c.requires.1 c.index-3.ensures (omega (arith, c.args.patch.now.cells.ok.0)))
 
 side : (c : After-row_known-5-1) (way : Way) → HasSide c.args.mesh.now (map path c.args.runs.now.arcs.items)
     c.args.runs.now.uses.items (begin c way) (side_size (rectangle c.args.patch.now) way)

@@ -1,4 +1,4 @@
-use Rattle.std.proofs.Common.{◌≡◌, ◌+◌, ◌-◌, Some, is_some, ap, ◌∙◌, sym, arith}
+use Rattle.std.proofs.Common.{rules, ◌≡◌, ◌+◌, ◌-◌, Some, is_some, ap, ◌∙◌, sym, arith}
 use Rattle.{std.proofs.lemmas.Option.same_Some, def_mesh.specs.Darts.straight_of, def_mesh.specs.HalfEdges.half_edges}
 use Rattle.{def_cut.specs.Steps.easts, qm_tmesh.proofs.Walks.listed_more}
 use Rattle.qm_tmesh.proofs.sides.line.Goals.{After-straight}
@@ -8,10 +8,9 @@ use Rattle.qm_tmesh.proofs.sides.line.Goals as goal
 straight : (c : After-straight) → c.straight.result
     ≡ Some (easts (half_edges c.args.mesh.now) c.args.first c.steps.counter)
 straight c =
-    let place : c.steps.counter - 1 + 1 ≡ c.steps.counter = omega (arith, c.steps.auto.counter) in
+    let place : c.steps.counter - 1 + 1 ≡ c.steps.counter = omega arith in
     c.straight.ensures.value ∙ (ap (straight_of c.args.mesh.now) (c.steps.invariant.at (c.steps.counter - 1) place)
-    ∙ rw place at (c.requires.straight (c.steps.counter - 1)
-    (omega (arith, c.steps.auto.counter, c.steps-test.true))))
+    ∙ rw place at (c.requires.straight (c.steps.counter - 1) (omega (arith, c.steps-test.true))))
 
 pub unwrap-d-requires : goal.unwrap-d-requires
 unwrap-d-requires c = ap is_some (straight (goal.at.unwrap-d-requires c).After-straight)
@@ -22,6 +21,5 @@ steps-preserved c =
     record {
       at = λ k e. let same : k ≡ c.steps.counter = omega arith in rw same is;
       low = rw c.unwrap-d.ensures at c.straight.ensures.dart;
-      listed = (listed_more (half_edges c.args.mesh.now) c.args.first c.steps.counter is c.steps.invariant.listed
-          c.in_ok-push-2.ensures.items).0;
+      listed = search (rules, listed_more);
     }

@@ -1,4 +1,5 @@
-use Rattle.std.proofs.Common.{◌≡◌, ◌-◌, ◌<◌, true, map, length, get_or, set, ap, ◌∙◌, refl, arith}
+use Rattle.std.proofs.lemmas.Grind.{common_steps}
+use Rattle.std.proofs.Common.{rules, ◌≡◌, ◌-◌, ◌<◌, true, map, length, get_or, set, ap, ◌∙◌, refl, arith}
 use Rattle.def_layout.specs.Arcs.{path, dart_at, long_at}
 use Rattle.qm_tmesh.proofs.{ArcTables.IsArcRead, ArcTables.arc_read, ArcTables.read_at, UseTables.uses_more}
 use Rattle.qm_tmesh.proofs.uses.uses.Goals.{in-Some, in_default, After-index-arcs-a, After-uses-in-loop-a-1}
@@ -15,37 +16,27 @@ first c some = read_at _ 0 c.index-first.ensures (omega arith) some
 
 last : (c : After-uses-in-loop-a-1) → 0 < length c.index-arcs-a.result.darts.items → c.index-last.result.now
     ≡ get_or c.index-arcs-a.result.darts.items (length c.index-arcs-a.result.darts.items - 1) 0
-last c some = read_at c.index-arcs-a.result.darts.items (length c.index-arcs-a.result.darts.items - 1)
-    c.index-last.ensures (omega (arith, c.len.ensures, c.index-arcs-a.result.darts.ok.0)) (omega arith)
+last c some = search (rules, read_at)
 
 pub index-first-requires : goal.index-first-requires
-index-first-requires c =
-    let read = arc (goal.at.index-first-requires c).After-index-arcs-a in
-    omega (arith, read.some, c.index-arcs-a.result.darts.ok.0)
+index-first-requires c = grind (arith, arc (goal.at.index-first-requires c).After-index-arcs-a)
 
 pub overflow_sub-len : goal.overflow_sub-len
-overflow_sub-len c =
-    let read = arc (goal.at.overflow_sub-len c).After-index-arcs-a in
-    omega (arith, read.some, c.index-arcs-a.result.darts.ok.0, c.len.ensures)
+overflow_sub-len c = grind (arith, arc (goal.at.overflow_sub-len c).After-index-arcs-a)
 
 pub index-last-requires : goal.index-last-requires
-index-last-requires c =
-    let read = arc (goal.at.index-last-requires c).After-index-arcs-a in
-    omega (arith, read.some, c.index-arcs-a.result.darts.ok.0, c.len.ensures)
+index-last-requires c = grind (arith, arc (goal.at.index-last-requires c).After-index-arcs-a)
 
 pub index_mut-requires : goal.index_mut-requires
 index_mut-requires c =
-    let at = goal.at.index_mut-requires c in
-    let read = arc at.After-index-arcs-a in
-    let is = first at.After-uses-in-loop-a-1 read.some in
-    omega (arith, is, read.below 0 read.some, c.loop-a.invariant.long, c.loop-a.uses.ok.0)
+    let read = arc (goal.at.index_mut-requires c).After-index-arcs-a in
+    grind (arith, common_steps, read.below 0 read.some)
 
 pub twin-requires : goal.twin-requires
 twin-requires c =
     let at = goal.at.twin-requires c in
     let read = arc at.After-index-arcs-a in
-    let low = read.below (length c.index-arcs-a.result.darts.items - 1) (omega (arith, read.some)) in
-    omega (arith, last at.After-uses-in-loop-a-1 read.some, low)
+    search (rules, read.below (length c.index-arcs-a.result.darts.items - 1), last at.After-uses-in-loop-a-1 read.some)
 
 pub loop-a-preserved : goal.loop-a-preserved
 loop-a-preserved c =
@@ -53,12 +44,11 @@ loop-a-preserved c =
     let read = arc at.After-index-arcs-a in
     let is = first at.After-uses-in-loop-a-1 read.some in
     let end = last at.After-uses-in-loop-a-1 read.some in
-    let one = set c.loop-a.uses.items c.index-first.result.now (record { arc = c.loop-a.a; forward = true }) in
+    let one = set c.loop-a.uses.items _ (record { arc = c.loop-a.a; forward = true }) in
     let low : c.index-first.result.now < darts c.args.mesh.now = omega (arith, is, read.below 0 read.some) in
     let begins : c.index-first.result.now ≡ dart_at (map path c.args.arcs.now) c.loop-a.a 0 = rw read.same is in
     let ends : c.twin.result ≡ twin_of c.args.mesh.now (dart_at (map path c.args.arcs.now) c.loop-a.a
-    (long_at (map path c.args.arcs.now) c.loop-a.a - 1)) =
-    rw read.same (c.twin.ensures.value ∙ ap (twin_of c.args.mesh.now) end) in
+    (long_at (map path c.args.arcs.now) c.loop-a.a - 1)) = search rules in
     elim c.match-twin.branch [
       | in-Some w ↦ rw w.uses-is (uses_more c.requires.marked c.requires.arcs {one = one} read.low c.loop-a.invariant
           begins ends refl low (λ t q. cc) (λ q. absurd cc))

@@ -16,8 +16,7 @@ returns c =
     let f = c.in_ok-forest.ensures in
     let room = have (goal.at.returns c).After-deref in
     record {
-      made = made_first _ (room (2 ^ 60) c.requires.costs).long
-          (λ cheap. (raised_first c.args.g.now.graph _ cheap room).range)
+      made = made_first _ (room (2 ^ 60) c.requires.costs).long (λ cheap. (raised_first _ _ cheap room).range)
           c.in_ok-search.ensures.same f.valid f.no_tree f.size f.weights;
-      small = λ most below b. rw (c.in_ok-search.ensures.same, f.weights b) ((room most below).small b);
+      small = λ most below b. rw (c.in_ok-search.ensures.same, f.weights b) ((room _ below).small b);
     }

@@ -10,6 +10,5 @@ returns c =
     let w = c.augment.ensures.changed in
     let way = c.requires.way in
     let ended : HasEnded g.n s.forest c.augment.new.self = λ v seeking. matched_more g w.2 (rw w.1 at seeking) in
-    assumption (idle_after way.made
-    (λ k l. omega (arith, way.low k l, true_key_low g (forest_of s.forest) s.risen k)) way.range
-    c.augment.ensures.valid c.augment.ensures.root w.2 refl (λ b. refl))
+    assumption (idle_after way.made (λ k l. grind (arith, way.low k l, true_key_low g (forest_of s.forest) s.risen k))
+    way.range c.augment.ensures.valid c.augment.ensures.root w.2 refl (λ b. refl))

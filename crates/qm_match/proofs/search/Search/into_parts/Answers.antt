@@ -8,6 +8,5 @@ returns-clause-dual c = small_dual c.requires.idle c.into_parts.ensures.dual c.i
 pub returns-clause-least : goal.returns-clause-least
 returns-clause-least c =
     let small = c.requires.idle.made.small in
-    says_yes _ _ (c.into_parts.ensures.yes c.args.g.now.graph small c.requires.idle.valid)
-    ∙ ap (λ (x : ℤ). Yes x)
-    (c.into_parts.ensures.perfect c.args.g.now.graph small c.requires.idle.valid c.requires.all).1
+    says_yes _ _ (c.into_parts.ensures.yes c.args.g.now.graph small c.requires.idle.valid) ∙ ap (λ (x : ℤ). Yes x)
+    (c.into_parts.ensures.perfect _ small c.requires.idle.valid c.requires.all).1

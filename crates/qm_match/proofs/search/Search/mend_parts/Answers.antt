@@ -7,9 +7,7 @@ use Rattle.qm_match.proofs.search.Search.mend_parts.Goals as goal
 pub mend_marked-requires : goal.mend_marked-requires
 mend_marked-requires c =
     let i = c.loop.invariant in
-    may_part c.requires c.loop.counter
-    (rw i.same (assumption (i.mended.size ∙ c.requires.made.leaves, i.room, c.requires.made)))
-    (ap (λ (s : Search). s.forest) i.same) i.here
+    may_part c.requires _ (grind arith) (ap (λ (s : Search). s.forest) i.same) i.here
 
 pub loop-preserved : goal.loop-preserved
 loop-preserved c =
@@ -18,17 +16,15 @@ loop-preserved c =
     let s = c.args.self.now in
     let f = forest_of s.forest in
     let i = c.loop.invariant in
-    let part = part_of s.forest c.args.set in
     let mended = rw i.same at c.mend_marked.ensures.mended in
     record {
       same = rw (c.mend_marked.ensures.same, i.same);
       room = c.mend_marked.ensures.room;
       here = search rules;
-      mended = mended_on g f s.risen i.mended mended;
-      right = below_more (λ k. get_or s.inner.items (part k) false ≡ true
-          → AreRightAt g f s.risen c.mend_marked.new.self.tour (f.holds (part k))) c.loop.counter
-          (λ k l mark. stay_right g f s.risen (f.holds (part k)) mended (i.right k l mark))
-          (rw (i.same, i.here) at c.mend_marked.ensures.right);
+      mended = mended_on g f _ i.mended mended;
+      right = below_more (λ k. get_or s.inner.items _ _ ≡ true → AreRightAt g f s.risen c.mend_marked.new.self.tour
+          (f.holds _)) _ (λ k l mark. stay_right g f s.risen (f.holds ((part_of s.forest _) k)) mended
+          (i.right k l mark)) (rw (i.same, i.here) at c.mend_marked.ensures.right);
     }
 
 pub returns-clause-right : goal.returns-clause-right

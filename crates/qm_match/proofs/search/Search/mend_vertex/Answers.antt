@@ -1,3 +1,4 @@
+use Rattle.std.proofs.lemmas.Grind.{common_steps}
 use Rattle.std.proofs.Common.{rules, ◌≡◌, ◌-◌, ◌/◌, ◌<◌, ◌∙◌, length, get_or, arith}
 use Rattle.std.proofs.{Math.ListN.set, lemmas.List.get_or-set_same, lemmas.List.get_or_read}
 use Rattle.qm_match.proofs.Chains.{mended_on, mended_one, passed_more, stays_right, vertex_right}
@@ -8,9 +9,7 @@ use Rattle.qm_match.proofs.search.Search.mend_vertex.Goals as goal
 -- The entry after one of the chain.
 read : (c : After-index-entry-in-loop-entry) → c.index-entry-in-loop-entry.result.now
     ≡ get_or c.args.self.now.fans.next.items (c.loop-entry.entry - 1) 0
-read c =
-    let fans : c.mend.new.self.fans.next.items ≡ c.args.self.now.fans.next.items = search rules in
-    search (rules, get_or_read)
+read c = search (rules, get_or_read)
 
 pub mend-requires : goal.mend-requires
 mend-requires c =
@@ -22,11 +21,7 @@ mend-requires c =
     })
 
 pub loop-entry-smaller : goal.loop-entry-smaller
-loop-entry-smaller c = omega (
-  arith,
-  read (goal.at.loop-entry-smaller c).After-index-entry-in-loop-entry,
-  c.requires.made.fans.nexts (c.loop-entry.entry - 1),
-)
+loop-entry-smaller c = grind (arith, common_steps, c.requires.made.fans.nexts (c.loop-entry.entry - 1))
 
 pub loop-entry-preserved : goal.loop-entry-preserved
 loop-entry-preserved c =
@@ -39,17 +34,14 @@ loop-entry-preserved c =
     let low : leaf < length c.loop-entry.self.tour = omega (arith, i.mended.size, c.requires.made.leaves) in
     let tour_is : c.mend.new.self.tour ≡ set c.loop-entry.self.tour leaf (true_key g f s.risen leaf) =
     rw (c.mend.ensures, i.same) in
-    let one = mended_one g f s.risen leaf low tour_is in
+    let one = mended_one g f _ _ low tour_is in
     record {
       same = rw (c.mend.ensures, i.same);
-      low = omega (arith, c.requires.made.fans.nexts (c.loop-entry.entry - 1));
-      mended = mended_on g f s.risen i.mended one;
-      done = passed_more s.fans.next.items _ (omega arith) next
-          (λ d. stays_right g f s.risen (d / 2) one)
-          (rw tour_is (get_or-set_same c.loop-entry.self.tour leaf (true_key g f s.risen leaf) 0 low)) i.done;
+      low = grind (arith, c.requires.made.fans.nexts (c.loop-entry.entry - 1));
+      mended = mended_on g f _ i.mended one;
+      done = passed_more _ _ (omega arith) next (λ d. stays_right g f _ _ one) (search rules) i.done;
     }
 
 pub returns-clause-right : goal.returns-clause-right
 returns-clause-right c = let s = c.args.self.now in
-    vertex_right c.args.g.now.graph (forest_of s.forest) s.risen c.loop-entry.self.tour c.args.v c.requires.made.fans
-    (omega arith) c.loop-entry.invariant.done
+    vertex_right _ (forest_of s.forest) _ _ _ c.requires.made.fans (omega arith) c.loop-entry.invariant.done

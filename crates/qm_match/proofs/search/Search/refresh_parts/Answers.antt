@@ -8,13 +8,11 @@ p_is : (c : After-index-p) → c.index-p.result.now ≡ get_or c.args.self.now.p
 p_is c = search (rules, get_or_read)
 
 pub refresh-requires : goal.refresh-requires
-refresh-requires c = rw (p_is (goal.at.refresh-requires c).After-index-p)
-    (may_later c.loop-k.invariant.refreshed (c.requires.may c.loop-k.k (omega arith)))
+refresh-requires c = rw (p_is _) (may_later c.loop-k.invariant.refreshed (c.requires.may c.loop-k.k (omega arith)))
 
 pub loop-k-preserved : goal.loop-k-preserved
 loop-k-preserved c = record {
   refreshed = refreshed_on c.loop-k.invariant.refreshed c.refresh.ensures.refreshed;
-  here = below_more (λ j. IsFreshAt c.args.g.now.graph c.refresh.new.self (get_or c.args.self.now.parts.items j 0))
-      c.loop-k.k (λ j l. stays_fresh c.refresh.ensures.refreshed (c.loop-k.invariant.here j l))
-      (rw (p_is (goal.at.loop-k-preserved c).After-index-p) at c.refresh.ensures.here);
+  here = below_more (λ j. IsFreshAt _ _ _) _ (λ j l. stays_fresh c.refresh.ensures.refreshed
+      (c.loop-k.invariant.here j l)) (search (rules, p_is));
 }

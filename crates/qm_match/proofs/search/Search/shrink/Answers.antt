@@ -1,4 +1,4 @@
-use Rattle.std.proofs.Common.{◌≡◌, refl, ap}
+use Rattle.std.proofs.Common.{rules, ◌≡◌, refl, ap}
 use Rattle.def_matching.specs.declared.weighted.WEdge.{WEdge}
 use Rattle.qm_match.proofs.{Stepped.closed, Stepped.closed_set, Stepped.shrunk_stepped}
 use Rattle.qm_match.proofs.search.Search.shrink.Goals.{After-outermost-set}
@@ -9,8 +9,7 @@ set_is c = closed_set c.shrink.new.self c.args.e c.requires.way c.shrink.ensures
     (ap (λ (x : WEdge). x.u) c.edge.ensures.value) c.outermost-set.ensures.value
 
 pub mend_parts-requires : goal.mend_parts-requires
-mend_parts-requires c = rw (set_is (goal.at.mend_parts-requires c).After-outermost-set)
-    (closed c.requires.way c.shrink.ensures.valid c.shrink.ensures.changed)
+mend_parts-requires c = search (rules, set_is, closed)
 
 pub returns : goal.returns
 returns c =

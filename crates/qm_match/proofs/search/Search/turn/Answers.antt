@@ -8,10 +8,8 @@ returns-then-key-clause-way c = λ e. rw (c.set_leaf.ensures, c.true_key-key.ens
     (mended_way c.least_leaf-leaf.result c.requires.way c.least_leaf-leaf.ensures.low)
 
 pub returns-then-key-clause-fewer : goal.returns-then-key-clause-fewer
-returns-then-key-clause-fewer c = λ e. rw (c.set_leaf.ensures, c.true_key-key.ensures) (fewer_stale c.args.g.now.graph
-    (forest_of c.args.self.now.forest) c.args.self.now.risen c.least_leaf-leaf.result c.args.self.now.tour _
-    c.least_leaf-leaf.ensures.low
-    (λ same. c.if-key.true (c.key.ensures ∙ (same ∙ sym c.true_key-key.ensures))) refl)
+returns-then-key-clause-fewer c = λ e. rw (c.set_leaf.ensures, c.true_key-key.ensures)
+    (fewer_stale _ (forest_of c.args.self.now.forest) _ _ _ _ c.least_leaf-leaf.ensures.low (search rules) refl)
 
 pub rise_to-requires : goal.rise_to-requires
 rise_to-requires c = record {
@@ -24,8 +22,7 @@ pub step-requires : goal.step-requires
 step-requires c = record {
   way = c.rise_to.ensures.way;
   low = rw c.rise_to.ensures.tour c.least_leaf-leaf.ensures.low;
-  here = c.rise_to.ensures.keys c.least_leaf-leaf.result c.least_leaf-leaf.ensures.low
-      ∙ (sym c.true_key-key.ensures ∙ sym c.rise_to.ensures.risen);
+  here = grind (arith, c.rise_to.ensures.keys c.least_leaf-leaf.result c.least_leaf-leaf.ensures.low);
   few = omega (arith, risen_few c.rise_to.ensures.way);
 }
 
