@@ -108,8 +108,7 @@ module _ (faces : Faces) (m : IsManifold faces) (marks : List Bool) (marked : Ar
             laws.next_prev a,
             left.gone r on,
             laws.next_prev r,
-            laws.twin_twin (prev_of r) a (laws.prev_low r lr)
-                is.first,
+            laws.twin_twin (prev_of r) a (laws.prev_low r lr) is.first,
           ) in
           (a, la, at_a laws r a b c lr is, on_a, before)
 

@@ -240,8 +240,7 @@ module _ {g : Terrain} {starts : List ℕ} {n : ℕ} {x : EventState} {c : ℕ} 
         at true on =
             let same : (decided_at g x v).riders ≡ (step g since).riders = grind (
               arith,
-              closed_is told_riders
-                  (all_noted riders parts.0),
+              closed_is told_riders (all_noted riders parts.0),
               all_at,
             ) in
             record {

@@ -112,8 +112,7 @@ module _ (l : Gluing) (x : Lengths) (laid : IsSurface l) (links : List (List Lin
       let there : IsLinkOf l x v got.0 = got.2 in
       let over : got.0.other ≡ Some (w.patch, side, from) = there.linked w (
         is,
-        turned_back (use_of l w) (use_of l v)
-            across.1,
+        turned_back (use_of l w) (use_of l v) across.1,
       ) ∙ (λ t. Some (w.patch, (sym is_link.side) t, (sym is_link.from) t)) in
       let same : got.0 ≡ link_to side' from' len w.patch side from = λ t. record {
         side = (there.side ∙ sym (ap (λ q. q.1) told)) t;

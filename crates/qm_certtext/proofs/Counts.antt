@@ -77,8 +77,7 @@ pub negative_form : (z : ℤ) (digits : Word) → unsigned_abs z < 10 ^ 18 → 4
 negative_form (pos n) digits low is = absurd (grind (
   arith,
   decimal_digits n (omega arith),
-  ap (list_all is_ascii_digit)
-      is,
+  ap (list_all is_ascii_digit) is,
 ))
 negative_form (negsuc k) digits low is = (k, refl, ap (drop 1) is, low)
 

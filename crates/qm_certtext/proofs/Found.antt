@@ -63,8 +63,7 @@ module _ (rising : Rising) (behind : Lines) (i : ℕ) (line : Bytes) (old : Foun
   behind_fail number (Line n) read why = search (
     rules,
     get_or-take i behind,
-    said_at rising (take i behind) read.said
-        read.texts read.allowed,
+    said_at rising (take i behind) read.said read.texts read.allowed,
   )
 
 -- What the bytes from the head line on tell, and those behind it.

@@ -22,8 +22,7 @@ same_dual rest y z u v small_y small_z one two = grind (
   arith,
   common_steps,
   split_once rest y z u v,
-  decimal_injective
-      u v,
+  decimal_injective u v,
   signed_decimal_injective,
 )
 

@@ -140,8 +140,7 @@ certs_tell rising behind certificates texts able other =
     let allowed = chosen_allowed _ _ able in (
       λ (tell : TellCerts rising behind other). grind (
         arith,
-        one_list rising (certificate_lines rising certificates)
-            tell.said allowed tell.allowed,
+        one_list rising (certificate_lines rising certificates) tell.said allowed tell.allowed,
         chosen_certs rising certificates able,
       ),
       search (rules, chosen_certs),

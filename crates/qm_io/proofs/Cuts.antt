@@ -219,8 +219,7 @@ module _ (bs rest : Bytes) (i : ℕ) (at : rest ≡ tail_of i bs) where
   cut_ended none = omega (
     arith,
     length-drop i (lines_of bs),
-    ap length (sym (last_lines bs i)
-        ∙ (ap lines_of (sym at) ∙ ap lines_of none)),
+    ap length (sym (last_lines bs i) ∙ (ap lines_of (sym at) ∙ ap lines_of none)),
   )
 
   -- Else the next line is the first of the rest.

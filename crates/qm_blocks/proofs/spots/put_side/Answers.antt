@@ -22,6 +22,5 @@ returns c way is = side_put (layout_of c.args.measured.now.t.now) (lengths_in c.
     (c.name_of.ensures way is) (omega (
       arith,
       c.requires.block,
-      length-map c.args.measured.now.t.now.patches.items
-          rectangle,
+      length-map c.args.measured.now.t.now.patches.items rectangle,
     )) c.put_uses.ensures

@@ -26,8 +26,7 @@ loop-used-preserved c =
           (λ i. slice_set c.loop-used.table (key i) (Some (
             c.args.block,
             c.args.name,
-            (sym c.loop-used.invariant.from)
-                i,
+            (sym c.loop-used.invariant.from) i,
           ))) (use_more side (lengths_in c.args.x.now) c.args.block c.args.name k c.args.table.now c.loop-used.table
           low c.loop-used.invariant.uses);
       from = omega (arith, count_step (sizes_on side x) k, read_size side x k c.loop-used-test.true);

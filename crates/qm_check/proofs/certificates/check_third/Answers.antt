@@ -26,8 +26,7 @@ returns-in_err-numbering-clause-unused c wish for =
     c.args.terms.settings (raised (lists_of c.args.pair.first) (lists_of c.args.pair.third)) c.args.pair.third
     c.in_err-numbering.field-0.0 (λ why none. inr (
       c.requires.doubling wish for,
-      wrong_of c.args.pair.third why net
-          none,
+      wrong_of c.args.pair.third why net none,
     )) c.in_err-numbering.ensures.refused)
 
 pub returns-clause-checked : goal.returns-clause-checked

@@ -12,8 +12,7 @@ prices_more net xs n prices one are is = record {
   each = λ k low. grind (
     arith,
     get_or_push prices one (pos 0) n are.long,
-    get_or_append_left prices (one ∷ []) (pos 0)
-        k,
+    get_or_append_left prices (one ∷ []) (pos 0) k,
     are.each k,
   );
 }

@@ -24,8 +24,7 @@ loop-f-preserved c =
     elim c.if-index.branch [
       | then-index+in_ok-flood w ↦ search (
         rules,
-        with_items_is c.loop-f.numbers w.flood.new.numbers
-            (w.flood.auto.numbers ∙ w.deref_mut.ensures.len),
+        with_items_is c.loop-f.numbers w.flood.new.numbers (w.flood.auto.numbers ∙ w.deref_mut.ensures.len),
         numbering_more n lf,
       )
       | else-index w ↦ grind (arith, numbering_skip n lf)
