@@ -312,9 +312,12 @@ class Ends(BatchRoom):
         self.assertEqual(ran.returncode, 124)
 
     def test_an_interrupt_while_modules_are_loaded_has_no_traceback(self):
+        # Over a program that hangs, since a batch with a bad file may else end by itself, with 1.
+        hangs = {**os.environ, "QUADQ": str(self.stub("hangs").path), "ROOM": str(self.room)}
         for at in range(6):
-            ran = subprocess.Popen([sys.executable, "-m", "quadq", str(self.inward), "--out", str(self.out), "--scale",
-                                    "1/2"], cwd=ROOT, stdout=subprocess.DEVNULL, stderr=subprocess.PIPE, text=True)
+            ran = subprocess.Popen(
+                [sys.executable, "-m", "quadq", str(self.inward), "--out", str(self.out), "--scale", "1/2"],
+                cwd=ROOT, stdout=subprocess.DEVNULL, stderr=subprocess.PIPE, text=True, env=hangs)
             modules = pathlib.Path(f"/proc/{ran.pid}/maps")
             while at and "multiarray" not in modules.read_text():
                 time.sleep(0.002)
