@@ -1,16 +1,21 @@
-"""Finds what right sides may do without: facts of tactics, `let`s that nothing names, and short ones named once."""
+"""Finds what right sides may do without: facts of tactics, `let`s that nothing names, and short ones named once.
+
+And lemmas that nothing names.
+"""
 
 from __future__ import annotations
 
 import re
-from collections.abc import Iterator
+from collections import Counter
+from collections.abc import Iterable, Iterator
+from pathlib import Path
 
-from shortening.terms import BINDER, WORD, Terms, bound_in, heads_in
-from shortening.trial import GIVEN, Edit, File
+from shortening.terms import BINDER, TACTICS, WORD, Terms, bound_in, declarations, heads_in
+from shortening.trial import MODULES, Edit, File
 
-LISTS = {*GIVEN, "omega", "cc", "simp", "assumption"}
-SETS = {*GIVEN.values(), "common_steps"}
-BY_TACTIC = re.compile(r"(search|omega|grind|cc|rw|simp|assumption|elim|record|let|λ)\b")
+LISTS = TACTICS - {"rw", "unfolding"}
+NO_VALUE = TACTICS | {"elim", "record", "let", "λ"}
+PART = re.compile(r"[^\s(){};,.:@\"«»\[\]|]+")
 SHORT = 50
 
 Change = tuple[int, int, str]
@@ -36,10 +41,10 @@ def fewer_facts(terms: Terms, at: int) -> Iterator[Change]:
         for first, last in terms.pieces(opening + 1, terms.partner[opening], ",")
     ]
     texts = [terms.text[start:end] for start, end in spans]
-    if len(spans) == 2 and texts[0] in SETS:
+    if len(spans) == 2 and texts[0] in MODULES:
         yield terms.tokens[opening][1], terms.tokens[terms.partner[opening]][2], texts[0]
     for number, (start, end) in enumerate(spans):
-        if len(spans) < 3 or (number == 0 and texts[0] in SETS):
+        if len(spans) < 3 or (number == 0 and texts[0] in MODULES):
             continue
         is_last = number + 1 == len(spans)
         yield (spans[number - 1][1], end, "") if is_last else (start, spans[number + 1][0], "")
@@ -57,7 +62,20 @@ def fewer_lets(terms: Terms, at: int) -> Iterator[Change]:
         yield start, body, ""
     elif len(named) == 1 and equals is not None and terms.find(at + 1, equals, {":"}) is None:
         value = " ".join(terms.text[terms.tokens[equals][2] : terms.tokens[to][1]].split())
-        is_plain = len(value) <= SHORT and not BY_TACTIC.match(value) and not re.search(BINDER, value)
+        is_plain = len(value) <= SHORT and value.split()[0] not in NO_VALUE and not re.search(BINDER, value)
         if is_plain and not bound_in(terms.text[body:]) & heads_in(value):
             put = value if " " not in value else f"({value})"
             yield start, named[0].end(), terms.text[body : named[0].start()] + put + named[0].group()[len(name) :]
+
+
+def unread(root: Path, files: Iterable[Path]) -> Iterator[tuple[Path, int, str]]:
+    """The lemmas of these files that no text names: a tactic may not need what the term in its place named."""
+    parts = ("src/**/*.rt", "specs/**/*.antt", "proofs/**/*.antt")
+    texts = (it.read_text(encoding="utf-8") for part in parts for it in root.glob(f"crates/*/{part}"))
+    named = Counter(word for text in texts for word in PART.findall(text))
+    for path in files:
+        lines = path.read_text(encoding="utf-8").split("\n")
+        for it in declarations(lines) if not path.stem.endswith("Examples") else ():
+            is_goal = path.name == "Answers.antt" and lines[it.first].startswith("pub ")
+            if not is_goal and named[it.name] == PART.findall(it.text).count(it.name):
+                yield path, it.first + 1, it.name

@@ -10,7 +10,7 @@ sys.path.insert(0, str(pathlib.Path(__file__).resolve().parents[1]))
 from shortening.lines import refilled  # noqa: E402
 from shortening.terms import Terms, bound_in, declarations, heads_in  # noqa: E402
 from shortening.trial import Edit, Proofs, edited, imported, outermost, renamed  # noqa: E402
-from shortening.unneeded import fewer_facts, fewer_lets  # noqa: E402
+from shortening.unneeded import fewer_facts, fewer_lets, unread  # noqa: E402
 
 FILE = """-- Two lemmas.
 use Rattle.std.proofs.Common.{◌≡◌, ℕ, zero, suc}
@@ -91,6 +91,13 @@ class Unneeded(unittest.TestCase):
         self.assertEqual(self.without("let a = low n in f a a", "let"), [])
         self.assertEqual(self.without("let a = low n in λ n. f a", "let"), [])
         self.assertEqual(self.without("let a = search rules in f a", "let"), [])
+
+    def test_lemmas_that_nothing_names(self):
+        with tempfile.TemporaryDirectory() as room:
+            path = pathlib.Path(room) / "crates" / "two" / "proofs" / "Two.antt"
+            path.parent.mkdir(parents=True)
+            path.write_text("\n".join(FILE))
+            self.assertEqual(list(unread(pathlib.Path(room), [path])), [(path, 4, "low")])
 
 
 class Written(unittest.TestCase):
