@@ -16,7 +16,7 @@ use Rattle.def_feature.specs.Marked.{is_origin, marked_starts, marked_first, IsM
 use Rattle.cut_laws.proofs.Crosses.{low_a, low_b, at_a, at_b, both_twins}
 use Rattle.motion_laws.proofs.Among.{AreApart, any_at, any_where, in_filter, from_filter, apart_filter, among_range}
 use Rattle.motion_laws.proofs.Among.{range_among, range_apart}
-use Rattle.motion_laws.proofs.{Bits.IsFirst, Bits.IsSoon, Bits.IsShut, Bits.IsCrossedAt, Bits.crossed_at, Bits.rotated}
+use Rattle.motion_laws.proofs.{Bits.IsFirst, Bits.IsSoon, Bits.IsCrossedAt, Bits.crossed_at, Bits.rotated}
 use Rattle.motion_laws.proofs.{Steps.ridden_begun, Steps.shut_before, Steps.shut_beside, Marks.none_on}
 use Rattle.site_laws.proofs.{Sites.terrain, Sites.started, Sites.all_start, Sources.start_in, Sources.start_of}
 use Rattle.site_laws.proofs.{Sources.found}
@@ -44,9 +44,6 @@ module _ (faces : Faces) (m : IsManifold faces) (marks : List Bool) (marked : Ar
 
   abbrev first : State
   first = marked_first faces marks
-
-  abbrev IsShutFirst : ℕ → Type 0
-  IsShutFirst d = IsShut (terrain_of faces) (marked_first faces marks) d
 
   abbrev IsCrossedFirst : ℕ → Type 0
   IsCrossedFirst v = IsCrossedAt (terrain_of faces) (marked_first faces marks) v

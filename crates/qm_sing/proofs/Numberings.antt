@@ -12,7 +12,7 @@ use Rattle.def_mesh.specs.Darts.{darts, all_darts, from_of, prev_of, twin_of}
 use Rattle.std.proofs.{lemmas.List.get_or-set_other, lemmas.List.length-set, lemmas.Bool.and_parts}
 use Rattle.std.proofs.{lemmas.Bool.and_from, lemmas.Bool.false≢true, lemmas.Bool.Decides.nat_tests}
 use Rattle.std.proofs.{lemmas.List.FromFn.get_or-map-range_with_len, lemmas.List.FromFn.length-range_with_len}
-use Rattle.def_mesh.specs.{Kinds.is_singular, Kinds.is_reflex, Kinds.is_regular, Kinds.kind_of, Vertices.vertex_count}
+use Rattle.def_mesh.specs.{Kinds.is_regular, Kinds.kind_of, Vertices.vertex_count}
 use Rattle.def_mesh.specs.{Vertices.all_vertices, Vertices.faces_at, Vertices.fan_of, declared.Kind.Kind, Faces.Faces}
 use Rattle.def_mesh.specs.{Manifold.IsManifold, HalfEdges.Turns, HalfEdges.IsQuadManifold, HalfEdges.half_edges}
 use Rattle.qm_sing.specs.{Rings.AreSeedMarks, Floods.IsNumbered, Floods.IsClosed, Floods.IsFlooded, Floods.IsNumbering}
@@ -25,12 +25,6 @@ use Rattle.{std.specs.List.range_with_len, std.specs.List.list_any, std.specs.Li
 -- The tests of a kind are those of its vertex.
 pub regular_is : (faces : Faces) (v : ℕ) → is_regular_kind (kind_of faces v) ≡ is_regular faces v
 regular_is faces v = search rules
-
-pub singular_is : (faces : Faces) (v : ℕ) → is_singular_kind (kind_of faces v) ≡ is_singular faces v
-singular_is faces v = search rules
-
-pub reflex_is : (faces : Faces) (v : ℕ) → 0 < faces_at faces v → is_reflex_kind (kind_of faces v) ≡ is_reflex faces v
-reflex_is faces v used = search rules
 
 -- The kind that was read.
 pub kind_read : (faces : Faces) (kinds : List Kind) (v : ℕ) (k : Kind) → v < vertex_count faces

@@ -10,7 +10,7 @@ use Rattle.def_flow.specs.{declared.limits.TheConstants.MAX_LENGTH}
 use Rattle.def_layout.specs.{Lengths.Lengths, Lengths.AreLengths as AreArcLengths, Layouts.Layout, Layouts.gluing_of}
 use Rattle.def_layout.specs.{Layouts.vertex_at, FaceLayouts.IsCutLayout}
 use Rattle.def_remesh.specs.Refusals.{IsDoubledBy, IsFineBy, IsRemeshable, AreTooFine}
-use Rattle.def_remesh.specs.Remeshed.{AreKeptBy, HasLeastLengths, AreCoarse, AreDoubled, finished_text}
+use Rattle.def_remesh.specs.Remeshed.{AreKeptBy, HasLeastLengths, finished_text}
 use Rattle.def_remesh.specs.{Certified.IsCertified, Certified.AreKept, Tasks.given_floors, Tasks.Wish, Tasks.Task}
 use Rattle.def_remesh.specs.{declared.kept.Kept.Kept, declared.kept.Kept.TheVariants.Multiple}
 use Rattle.def_remesh.specs.{declared.kept.Kept.TheVariants.Least, Keeping.IsKept, Keeping.IsNetWith}
@@ -19,7 +19,7 @@ use Rattle.def_remesh.specs.{Stitched.IsUnstitched, Stitched.KeepsShapes, declar
 use Rattle.def_remesh.specs.{declared.tables.Tables.Tables}
 use Rattle.remesh_laws.proofs.ReadAgain.{kept_by, raised_net, certified_lengths, task_read}
 use Rattle.remesh_laws.{proofs.Solved.certified, specs.Keeps.IsNumbered, specs.Keeps.ShowsTask}
-use Rattle.def_written.specs.{Edges.IsFirstDoubled, NewFaces.new_faces, Shape.KeepsShape}
+use Rattle.def_written.specs.{NewFaces.new_faces, Shape.KeepsShape}
 use Rattle.{def_text.specs.FaceSet.FaceSet, def_layoutnet.specs.Floors.HasFloors}
 use Rattle.def_remesh.specs.declared.fail.StitchFail.TheVariants as fails
 
@@ -77,15 +77,6 @@ keeps_third layout settings first third xs tables = search (rules, keeps)
 pub too_fine : (layout : Layout) (xs ys : List ℕ) (fail : StitchFail) (faces : ℕ) → xs ≡ ys → fail ≡ fails.TooFine faces
     → IsUnstitched (gluing_of layout) (lengths_in xs) fail → AreTooFine layout ys faces
 too_fine layout xs ys fail faces same is refused = search rules
-
-pub doubled_first : (layout : Layout) (xs ys : List ℕ) (fail : StitchFail) (u v : ℕ) → xs ≡ ys → fail
-    ≡ fails.Doubled u v → IsUnstitched (gluing_of layout) (lengths_in xs) fail → AreCoarse layout ys
-    × IsFirstDoubled (gluing_of layout) (lengths_in ys) u v
-doubled_first layout xs ys fail u v same is refused = search rules
-
-pub doubled_some : (layout : Layout) (ys : List ℕ) (u v : ℕ) → IsFirstDoubled (gluing_of layout) (lengths_in ys) u v
-    → AreDoubled layout ys
-doubled_some layout ys u v first = (u, v, first.doubled)
 
 -- No length is too great, also beyond the last arc.
 pub bounded : (net : Network) (cert : Cert) (xs : List ℕ) → IsSolution net (certificate cert) → xs ≡ cert.x.items

@@ -17,8 +17,7 @@ use Rattle.search_laws.specs.{Searches.steps_left, Searches.turns_left}
 use Rattle.search_laws.proofs.Kept.{on_cycle, opened_old, opened_label, shrunk_on, shrunk_off, shrunk_set, shrunk_label}
 
 not_outer_low : (l : Label) → not_outer l ≤ 1
-not_outer_low Outer = omega arith
-not_outer_low _ = omega arith
+not_outer_low l = grind arith
 
 -- No more sets are in use than there are numbers of blossoms.
 sets_low : (n : ℕ) (f : Forest) → sets_of n f ≤ f.size

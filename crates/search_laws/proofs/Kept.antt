@@ -23,8 +23,7 @@ quiet_key : {a b c d : Label} (s t : Bool) (slack risen : ℕ) → (c ≡ a) ⊎
 quiet_key s t slack risen x y on = grind arith
 
 inner_cases : (l : Label) → (l ≡ Inner) ⊎ (l ≢ Inner)
-inner_cases Inner = inl refl
-inner_cases _ = inr (λ e. cc e)
+inner_cases l = grind arith
 
 -- The edges at vertex w have the keys that they ought to have.
 abbrev pub AreRight : (g : WeightedGraph) (f : Forest) (risen : ℕ) (keys : List ℕ) (w : ℕ) → Type 0
@@ -79,8 +78,7 @@ true_key_low g f risen k = grind arith
 -- The edges at a vertex of a set of vertices.
 right_at : (g : WeightedGraph) (f : Forest) (risen : ℕ) (keys : List ℕ) (set : ℕ → Bool) {w : ℕ}
     → AreRightAt g f risen keys set → set w ≡ true → AreRight g f risen keys w
-right_at g f risen keys set right on e l (inl eu) = right e l (inl (ap set eu ∙ on))
-right_at g f risen keys set right on e l (inr ev) = right e l (inr (ap set ev ∙ on))
+right_at g f risen keys set right on e l either = grind arith
 
 -- A vertex is held by its outermost blossom.
 pub held_out : (g : WeightedGraph) {f : Forest} {root : Option ℕ} → IsValid (darts_of g) f root → (w : ℕ) → w < g.n
