@@ -1,10 +1,9 @@
 -- Corners and the indices between their slashes.
-use Rattle.std.proofs.lemmas.Grind.{common_steps}
 use Rattle.def_text.specs.declared.index.Index.{TheVariants.Vertex, TheVariants.Out}
 use Rattle.std.specs.List.{before_first, list_all, list_any, position_or_len, slice_split}
-use Rattle.std.proofs.lemmas.{Bool.Decides.nat_tests, Bool.cases_Bool, Bool.false≢true}
+use Rattle.std.proofs.lemmas.{Bool.Decides.nat_tests, Bool.cases_Bool, Bool.false≢true, Grind.common_steps}
 use Rattle.std.proofs.Common.{rules, List, None, Some, arith, cond, drop, eqb, false, length, refl, true, ◌&&◌, ◌||◌, ℕ}
-use Rattle.std.proofs.Common.{[], ap, leb, ltb, min, suc, ◌+◌, ◌-◌, ◌<◌, ◌^◌, ◌∙◌, ◌∷◌, ◌≡◌, ◌≤◌}
+use Rattle.std.proofs.Common.{[], ap, leb, ltb, min, suc, ◌+◌, ◌-◌, ◌<◌, ◌^◌, ◌∷◌, ◌≡◌, ◌≤◌}
 use Rattle.def_text.specs.Digits.{is_negative, is_number, is_signed, number_written, unsigned}
 use Rattle.def_text.specs.Corner.{are_indices, index_of, is_corner_word, is_optional, is_slash, used_index}
 use Rattle.qm_obj.specs.{Indices.parts_behind, Indices.corner_of, Indices.clamped, Indices.named}

@@ -1,8 +1,7 @@
 -- Lines and pieces that are taken one by one, and what is then kept.
-use Rattle.std.proofs.lemmas.Grind.{common_steps}
 use Rattle.def_text.specs.declared.refusal.ObjFail.{ObjFail, TheVariants.Memory, TheVariants.Limit}
 use Rattle.std.proofs.lemmas.List.{append-nil, append_assoc, length-append, Folds.list_any-append}
-use Rattle.std.proofs.lemmas.{Result.on_ok_weaker, Result.IfErr-weaker, Bool.eqb-true}
+use Rattle.std.proofs.lemmas.{Result.on_ok_weaker, Result.IfErr-weaker, Bool.eqb-true, Grind.common_steps}
 use Rattle.std.proofs.Common.{rules, Err, List, None, Option, Result, Some, arith, eqb, false, length, refl, true, ◌++◌}
 use Rattle.std.proofs.Common.{Ok, [], ap, sym, ℕ, ◌+◌, ◌-◌, ◌<◌, ◌∙◌, ◌∷◌, ◌≡◌, ◌≢◌, ◌≤◌}
 use Rattle.qm_obj.specs.Feeding.{RefusesLine, RefusesPiece, TookLine, TookPiece, number_by, FedPiece, FedTo, FedWhole}
@@ -16,9 +15,8 @@ use Rattle.qm_obj.proofs.{KeptLemmas.line_taken, JoinLemmas.behind_nothing, Join
 use Rattle.def_text.specs.{Types.Positions, Logical.logical_lines, Logical.Logical, Logical.is_hash, FaceSet.FaceSet}
 use Rattle.def_io.specs.{Moves.IsEmptied, Moves.GaveMore, Lines.lines_of, Lines.line_of, Bytes.Bytes, Bytes.Lines}
 use Rattle.def_feed.specs.{Feed.is_line_feed, Feed.answer_with, Feed.StandsFor, Feed.Fed}
-use Rattle.{qm_obj.proofs.KeptLemmas.kept_says, qm_obj.proofs.KeptLemmas.stops_at, qm_io.proofs.Cuts.gave_more}
+use Rattle.{qm_obj.proofs.KeptLemmas.kept_says, qm_obj.proofs.KeptLemmas.stops_at, def_io.specs.Bytes.Told}
 use Rattle.{def_text.specs.Text.soup_in, def_text.specs.Text.soup_of, def_mesh.specs.Faces.Faces}
-use Rattle.{def_io.specs.Bytes.Told}
 
 -- Whether bytes are empty, by their number.
 pub is_nothing : {xs : Bytes} {n : ℕ} → true ≡ eqb n 0 → n ≡ length xs → xs ≡ []
@@ -33,14 +31,13 @@ pub record IsSound (kept : KeptText) : Type 0 where
   pub fits : Fits kept.positions kept.faces kept.lines
   pub bare : list_any is_hash kept.joined ≡ false
   pub unended : list_any is_line_feed kept.tail ≡ false
-  pub held : length kept.joined + length kept.tail ≤ 65537
 
 -- A joiner of lines and a reader of pieces keep it so.
 pub sound_of : (joiner : Joiner) → IsSound (kept_of joiner [])
-sound_of j = record { fits = j.reader.fits; bare = j.bare; unended = refl; held = omega arith }
+sound_of j = record { fits = j.reader.fits; bare = j.bare; unended = refl }
 
 pub sound_at : (progress : Progress) → IsSound (kept_at progress)
-sound_at p = record { fits = p.joiner.reader.fits; bare = p.joiner.bare; unended = p.unended; held = p.short }
+sound_at p = record { fits = p.joiner.reader.fits; bare = p.joiner.bare; unended = p.unended }
 
 -- What a reader of pieces keeps of a line that has not ended.
 pub tail_more : {T E : Type 0} (r : Result T E) (old bytes tail : Bytes) → OnOk r (tail ≡ old ++ bytes)
@@ -48,34 +45,34 @@ pub tail_more : {T E : Type 0} (r : Result T E) (old bytes tail : Bytes) → OnO
     → (list_any is_line_feed tail ≡ false) × (length tail ≤ length old + length bytes)
 tail_more r h1 h2 h3 h4 = search (rules, list_any-append, length-append)
 
-module _ {old : KeptText} (sound : IsSound old) where
-  -- A logical line that is too long is refused, whatever comes behind.
-  pub long_line : (line : Bytes) {number : ℕ} → number ≡ number_by old.joined old.next old.begun
-      → 65536 < length old.joined + length line → RefusesLine old line (Limit Line number)
-  long_line line {number} is long lines =
-      let first = begins_behind old.begun old.next old.joined line lines in
-      let says : next_said old.positions old.faces first.0 ≡ Refused (Limit Line number) = search rules in
-      rw first.2 (stops_at old.positions old.faces old.lines first.0 first.1 sound.fits.sizes says)
+-- A logical line that is too long is refused, whatever comes behind.
+pub long_line : {old : KeptText} → IsSound old → (line : Bytes) {number : ℕ}
+    → number ≡ number_by old.joined old.next old.begun → 65536 < length old.joined + length line
+    → RefusesLine old line (Limit Line number)
+long_line {old} sound line {number} is long lines =
+    let first = begins_behind old.begun old.next old.joined line lines in
+    let says : next_said old.positions old.faces first.0 ≡ Refused (Limit Line number) = search rules in
+    rw first.2 (stops_at old.positions old.faces old.lines first.0 first.1 sound.fits.sizes says)
 
-  -- A line that ends a logical line is read, or refused.
-  module _ (line : Bytes) {one : Logical}
-      (are : (lines : Lines) → logical_behind old (line ∷ lines) ≡ one ∷ logical_lines (old.next + 1) lines) where
-    pub ended_line : {joined : Bytes} {p : Positions} {c : Faces} {l : List ℕ} {begun : ℕ} → joined ≡ []
-        → Took old.positions p old.faces c old.lines l (next_said old.positions old.faces one)
-        → TookLine old (record {
-          positions = p;
-          faces = c;
-          lines = l;
-          next = old.next + 1;
-          begun = begun;
-          joined = joined;
-          tail = [];
-        }) line
-    ended_line none took = record { same = λ lines. rw (are _, none) (search (rules, line_taken)); next = refl }
+-- A line that ends a logical line is read, or refused.
+module _ {old : KeptText} (sound : IsSound old) (line : Bytes) {one : Logical}
+    (are : (lines : Lines) → logical_behind old (line ∷ lines) ≡ one ∷ logical_lines (old.next + 1) lines) where
+  pub ended_line : {joined : Bytes} {p : Positions} {c : Faces} {l : List ℕ} {begun : ℕ} → joined ≡ []
+      → Took old.positions p old.faces c old.lines l (next_said old.positions old.faces one)
+      → TookLine old (record {
+        positions = p;
+        faces = c;
+        lines = l;
+        next = old.next + 1;
+        begun = begun;
+        joined = joined;
+        tail = [];
+      }) line
+  ended_line none took = record { same = λ lines. rw (are _, none) (search (rules, line_taken)); next = refl }
 
-    pub refused_line : {fail : ObjFail} → next_said old.positions old.faces one ≡ Refused fail
-        → RefusesLine old line fail
-    refused_line stops = λ lines. rw (are lines) (search (rules, stops_at))
+  pub refused_line : {fail : ObjFail} → next_said old.positions old.faces one ≡ Refused fail
+      → RefusesLine old line fail
+  refused_line stops = λ lines. rw (are lines) (search (rules, stops_at))
 
 -- No line comes behind: what is joined is the last one.
 abbrev pub last_line : KeptText → Logical

@@ -20,18 +20,15 @@ groups_step line (l ∷ ls) =
 -- How many lines and bytes it has, and its text.
 pub group_span : (lines : Lines) → length (first_group lines) ≡ span lines
 group_span [] = refl
-group_span (line ∷ []) = grind arith
-group_span (line ∷ l ∷ ls) = grind (arith, groups_step l ls, group_span (l ∷ ls))
+group_span (line ∷ lines) = grind (arith, group_span lines)
 
 group_size : (lines : Lines) → length (flat_map (λ l. l) (first_group lines)) ≡ size_ahead lines
 group_size [] = refl
-group_size (line ∷ []) = grind (arith, append-nil line)
-group_size (line ∷ l ∷ ls) = search (rules, length-append, group_size (l ∷ ls))
+group_size (line ∷ lines) = grind (arith, length-append, group_size lines)
 
 pub group_text : (lines : Lines) → joined (first_group lines) ≡ text_ahead lines
 group_text [] = refl
-group_text (line ∷ []) = grind (arith, append-nil (before_first is_hash line))
-group_text (line ∷ l ∷ ls) = grind (arith, group_text (l ∷ ls), append-nil (before_first is_hash line))
+group_text (line ∷ lines) = grind (arith, append-nil, group_text lines)
 
 -- The first logical line, and those behind its physical lines.
 pub logical_step : (number : ℕ) (line : List ℕ) (lines : Lines) → logical_lines number (line ∷ lines) ≡ first_logical
@@ -50,9 +47,6 @@ span_few (line ∷ lines) = grind (arith, span_few lines)
 
 -- The logical line with which a range of physical lines begins.
 module _ (all : Lines) (i after : ℕ) (lt : i < after) (within : after ≤ length all) where
-  cut : slice_range all i after ≡ get_or all i [] ∷ slice_range all (i + 1) after
-  cut = range_cons all i after lt within
-
   -- The next logical line begins behind this one, and within the range.
   pub span_within : (1 ≤ span (slice_range all i after)) × (i + span (slice_range all i after) ≤ after)
   span_within = search (rules, span_few, length-range)
@@ -63,18 +57,15 @@ module _ (all : Lines) (i after : ℕ) (lt : i < after) (within : after ≤ leng
       ≡ first_logical (i + 1) (slice_range all i after) ∷ logical_lines (next + 1) (slice_range all next after)
   next_lines next is =
       let behind = range_drop all i (span (slice_range all i after)) after span_within.1 in
-      search (rules, cut, logical_step)
+      search (rules, range_cons all i after, logical_step)
 
   module _ (line : List ℕ) (is : line ≡ get_or all i []) (off : continues line ≡ false) where
-    pub here : slice_range all i after ≡ line ∷ slice_range all (i + 1) after
-    here = rw is cut
-
     -- A physical line that does not go on is a logical line.
     pub single_span : 1 ≡ span (slice_range all i after)
-    single_span = rw (here, off) refl
+    single_span = rw (range_cons all i after lt within, ← is, off) refl
 
     pub single_text : before_first is_hash line ≡ text_ahead (slice_range all i after)
-    single_text = rw (here, off) refl
+    single_text = rw (range_cons all i after lt within, ← is, off) refl
 
 -- The logical lines of a text that a reader takes one by one: the first physical lines, up to line i, are read, and the
 -- soup of what is kept with those from i up to `after` behind it is that of the text.

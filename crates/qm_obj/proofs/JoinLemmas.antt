@@ -1,19 +1,16 @@
 -- Physical lines that are joined to logical lines.
-use Rattle.std.proofs.lemmas.Grind.{common_steps}
-use Rattle.std.proofs.lemmas.List.Folds.{list_any-append, list_any_at, list_any_none}
-use Rattle.std.proofs.lemmas.List.{append-nil, append_assoc, length-append, length-take, Elements.All-take}
-use Rattle.std.proofs.lemmas.{Bool.Decides.nat_tests, Bool.false≢true, Bool.or_from}
-use Rattle.std.proofs.Common.{rules, List, arith, eqb, false, get_or, length, not, refl, take, true, ◌++◌, [], sym, suc}
+use Rattle.std.proofs.lemmas.List.{append-nil, append_assoc, length-append, length-take, Folds.list_any-append}
+use Rattle.std.proofs.lemmas.{Bool.Decides.nat_tests, Bool.false≢true, Bool.or_from, Grind.common_steps}
+use Rattle.std.proofs.Common.{rules, List, arith, eqb, false, get_or, length, not, refl, true, ◌++◌, [], suc}
 use Rattle.qm_obj.specs.Lines.{first_logical, next_said, uncommented, line_as, Took}
-use Rattle.def_text.specs.declared.{refusal.ObjFail.ObjFail, reading.Reading.TheVariants.Refused}
 use Rattle.def_text.specs.Logical.{Logical, continues, is_hash, logical_lines, with_space}
 use Rattle.std.specs.{Prelude.slice_range, List.position_or_len, List.before_first, List.list_any}
 use Rattle.std.proofs.{Common.◌+◌, Common.◌-◌, Common.◌<◌, Common.◌∙◌, Common.◌∷◌, Common.◌≡◌, Common.◌≤◌, Common.ap}
 use Rattle.qm_obj.specs.{Feeding.number_by, Ahead.size_ahead, Ahead.text_ahead, Ahead.span}
-use Rattle.qm_obj.proofs.{WordLemmas.uncommented_none, WordLemmas.uncommented_is, Groups.logical_step, Groups.here}
+use Rattle.qm_obj.proofs.{WordLemmas.uncommented_is, WordLemmas.uncommented_none, Groups.logical_step}
 use Rattle.def_feed.specs.{Kept.logical_behind, Kept.with_joined, Kept.with_front, Kept.KeptText}
-use Rattle.{qm_obj.proofs.Groups.range_cons, def_text.specs.Types.Positions, def_mesh.specs.Faces.Faces}
-use Rattle.{std.proofs.Common.ℕ, def_io.specs.Bytes.Lines, def_io.specs.Bytes.Bytes}
+use Rattle.{def_text.specs.Types.Positions, def_mesh.specs.Faces.Faces}
+use Rattle.{std.proofs.Common.ℕ, def_io.specs.Bytes.Bytes, def_io.specs.Bytes.Lines, qm_obj.proofs.Groups.range_cons}
 
 -- A comment is found before the end exactly where there is one.
 pub no_hash : (line : List ℕ) → eqb (position_or_len is_hash line) (length line) ≡ not (list_any is_hash line)
@@ -27,20 +24,15 @@ length-with_space (b ∷ bs) on = search (rules, length-append)
 
 -- The physical lines up to this one are joined, and each of them continues.
 pub record IsJoining (all : Lines) (i next after : ℕ) (bytes : List ℕ) : Type 0 where
-  pub from : i ≤ next
-  pub within : next ≤ after
   pub text : bytes ++ text_ahead (slice_range all next after) ≡ text_ahead (slice_range all i after)
   pub count : next + span (slice_range all next after) ≡ i + span (slice_range all i after)
   pub size : length bytes + size_ahead (slice_range all next after) ≡ size_ahead (slice_range all i after)
 
 module _ {all : Lines} {i next after : ℕ} {bytes line : List ℕ} (lt : next < after) (within : after ≤ length all)
     (is : line ≡ get_or all next []) (so_far : IsJoining all i next after bytes) where
-  joining_cut : slice_range all next after ≡ line ∷ slice_range all (next + 1) after
-  joining_cut = rw is (range_cons all next after lt within)
-
   -- One line more, that continues.
   pub joining_more : continues line ≡ true → IsJoining all i (next + 1) after (bytes ++ with_space line)
-  joining_more on = search (rules, append_assoc, length-append, joining_cut, length-with_space)
+  joining_more on = search (rules, append_assoc, length-append, range_cons all next after, length-with_space)
 
   -- The last line, that does not continue.
   pub joined_last : continues line ≡ false → record {
@@ -48,7 +40,7 @@ module _ {all : Lines} {i next after : ℕ} {bytes line : List ℕ} (lt : next <
     count : next + 1 ≡ i + span (slice_range all i after);
     size : length bytes + length line ≡ size_ahead (slice_range all i after);
   }
-  joined_last off = grind (arith, joining_cut)
+  joined_last off = grind (arith, range_cons all next after lt within)
 
 -- What is left to read is no longer than the physical lines.
 pub joined_short : (lines : Lines) → length (text_ahead lines) ≤ size_ahead lines
@@ -59,7 +51,7 @@ joined_short (line ∷ lines) = search (rules, length-append, length-take, lengt
 pub single_logical : (all : Lines) (i after : ℕ) (lt : i < after) (within : after ≤ length all) (line : List ℕ)
     → line ≡ get_or all i [] → continues line ≡ false
     → line_as (i + 1) (length line) line ≡ first_logical (i + 1) (slice_range all i after)
-single_logical all i after lt within line is off = search (rules, here, uncommented_is)
+single_logical all i after lt within line is off = search (rules, range_cons all i after lt within, uncommented_is)
 
 -- What is left to read of a logical line has no comment.
 cut_none : (line : List ℕ) → list_any is_hash (uncommented line) ≡ false
@@ -79,15 +71,10 @@ pub joined_logical : (lines : Lines) (number : ℕ) {size : ℕ} {bytes : List �
     → bytes ≡ text_ahead lines → line_as number size bytes ≡ first_logical number lines
 joined_logical lines number sizes are = search (rules, uncommented_none, joined_none)
 
--- What is kept behind a logical line, and its refusal, are those of the same line.
-module _ {a b : Logical} (same : a ≡ b) where
-  pub same_took : {p p' : Positions} {c c' : Faces} {l l' : List ℕ} → Took p p' c c' l l' (next_said p c a)
-      → Took p p' c c' l l' (next_said p c b)
-  same_took {p} {p'} {c} {c'} {l} {l'} took = rw (← same) took
-
-  pub same_refused : (p : Positions) (c : Faces) {fail : ObjFail} → next_said p c a ≡ Refused fail
-      → next_said p c b ≡ Refused fail
-  same_refused p c stops = ap (next_said p c) (sym same) ∙ stops
+-- What is kept behind a logical line is what is kept behind the same line.
+pub same_took : {a b : Logical} (same : a ≡ b) {p p' : Positions} {c c' : Faces} {l l' : List ℕ}
+    → Took p p' c c' l l' (next_said p c a) → Took p p' c c' l l' (next_said p c b)
+same_took same {p} {p'} {c} {c'} {l} {l'} took = rw (← same) took
 
 -- Logical lines of which the first begins with text that is joined.
 

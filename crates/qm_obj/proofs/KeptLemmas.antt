@@ -1,5 +1,4 @@
 -- What lines say one behind the other, which faces are late, and what clamping changes.
-use Rattle.std.proofs.lemmas.Grind.{common_steps}
 use Rattle.def_text.specs.declared.reading.Reading.TheVariants.{Passed, Position, Refused, Face}
 use Rattle.def_text.specs.declared.refusal.ObjFail.{ObjFail, TheVariants.Memory, TheVariants.Range}
 use Rattle.std.proofs.lemmas.List.{length-append, Sums.sum_by_push, Folds.list_all-append, Concat.flat_map-append}
@@ -10,12 +9,12 @@ use Rattle.def_text.specs.Text.{first_refusal, late_in, readings, refusal_in, fa
 use Rattle.def_text.specs.Reading.{face_reading, is_face_line, is_letter, is_vertex_line, vertex_reading, words_reading}
 use Rattle.std.specs.{Prelude.IfErr, Prelude.IfOk, List.flat_map, List.list_all, List.list_any, List.count_by}
 use Rattle.qm_obj.specs.{Lines.next_said, Kept.first_late, Kept.IsLate, Indices.with_clamped, Indices.clamped}
-use Rattle.qm_obj.proofs.{TailLemmas.parts_none, SoupLemmas.same_faces, SoupLemmas.few_pos}
+use Rattle.qm_obj.proofs.SoupLemmas.{same_faces, few_pos}
 use Rattle.def_text.specs.{declared.reading.Reading.Reading, Types.Positions, Reading.begins_with, Corner.used_index}
 use Rattle.def_text.specs.{Reading.reading, Logical.Logical, FaceSet.FaceSet, Corner.resolved, Corner.is_out}
 use Rattle.{def_text.specs.Words.words, def_feed.specs.Kept.readings_behind, def_feed.specs.Kept.face_readings}
 use Rattle.{qm_obj.specs.Lines.Fits, qm_obj.specs.Lines.Took, def_text.specs.Types.Words, def_mesh.specs.Faces.Faces}
-use Rattle.{std.specs.Prelude.⊤}
+use Rattle.{std.specs.Prelude.⊤, std.proofs.lemmas.Grind.common_steps}
 
 -- A line of this kind, after so many `v` and `f` lines, may say this.
 abbrev pub Suits : (vertices faces : ℕ) (vertex face : Bool) (said : Reading) → Type 0
@@ -87,14 +86,15 @@ kept_says p c l = map (λ position. Position position) p ++ face_readings l c
 abbrev pub soup_behind : (p : Positions) (c : Faces) (l : List ℕ) (lines : List Logical) → Result FaceSet ObjFail
 soup_behind p c l lines = soup_of (kept_says p c l ++ readings_behind (length p) (length c) lines)
 
-record KeptBehind (p : Positions) (c : Faces) (l : List ℕ) (said all : List Reading) : Type 0 where
-  refusals : flat_map refusal_in all ≡ flat_map refusal_in said
-  positions_are : positions all ≡ p ++ positions said
-  faces_are : faces all ≡ c ++ faces said
-  late : (n : ℕ) → flat_map (late_in n) all ≡ flat_map (late_in n) (face_readings l c) ++ flat_map (late_in n) said
-
+-- What is kept and what is said behind it, together.
 kept_behind : (p : Positions) (c : Faces) (l : List ℕ) (said : List Reading) → length l ≡ length c
-    → KeptBehind p c l said (kept_says p c l ++ said)
+    → let all = kept_says p c l ++ said in record {
+      refusals : flat_map refusal_in all ≡ flat_map refusal_in said;
+      positions_are : positions all ≡ p ++ positions said;
+      faces_are : faces all ≡ c ++ faces said;
+      late : (n : ℕ) → flat_map (late_in n) all ≡ flat_map (late_in n) (face_readings l c)
+          ++ flat_map (late_in n) said;
+    }
 kept_behind (x ∷ p) c l said sizes = grind (arith, kept_behind p c l said sizes)
 kept_behind [] (x ∷ c) (n ∷ l) said sizes = let again = kept_behind [] c l said (omega arith) in
     grind (arith, common_steps)
@@ -116,10 +116,8 @@ kept_soup p c l said =
 
 kept_soup_is : (p : Positions) (c : Faces) (l : List ℕ) (said : List Reading) → length l ≡ length c
     → soup_of (kept_says p c l ++ said) ≡ kept_soup p c l said
-kept_soup_is p c l said sizes = by_parts _ (kept_behind p c l said sizes)
-  where
-    by_parts : (all : List Reading) → KeptBehind p c l said all → soup_of all ≡ kept_soup p c l said
-    by_parts all is = rw (is.refusals, is.positions_are, is.faces_are, is.late (length (p ++ positions said))) refl
+kept_soup_is p c l said sizes = let is = kept_behind p c l said sizes in
+    rw (is.refusals, is.positions_are, is.faces_are, is.late (length (p ++ positions said))) refl
 
 -- Where no line behind is refused, the positions stay within the limit.
 few_behind : (vertices faces : ℕ) (lines : List Logical) → vertices ≤ 2 ^ 21
@@ -222,13 +220,4 @@ pub finished : {p : Positions} {c : Faces} {l : List ℕ} → Fits p c l → {sa
       few : IfOk r (λ s. (length s.pos ≤ 2 ^ 21) × (length s.faces ≤ 2 ^ 20));
       refused : IfErr r (λ fail. fail ≢ Memory → said ≡ Err fail);
     }
-finished {p} {c} {l} old is (Ok s) made late = record {
-  soup = is ∙ kept_alone p c l old.sizes ∙ rw made.0 (ap Ok (sym made.1));
-  few = rw made.1 (omega (arith, few_pos p c), omega (arith, same_faces p c));
-  refused = tt;
-}
-finished {p} {c} {l} old is (Err fail) made late = search (rules, kept_alone)
-  where
-    by_late : (first : Option ℕ) → IsLate fail first → late_or first (face_set p c) ≡ Err fail
-    by_late None is = absurd is
-    by_late (Some line) is = ap Err (sym is)
+finished {p} {c} {l} old is r made late = search (rules, kept_alone p c l, few_pos p c, same_faces p c)

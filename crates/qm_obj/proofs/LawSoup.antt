@@ -1,14 +1,13 @@
 -- What the lines of a canonical text say, and the soup that they have.
-use Rattle.std.proofs.lemmas.Grind.{common_steps}
 use Rattle.def_text.specs.declared.reading.Reading.{Reading, TheVariants.Position, TheVariants.Face}
-use Rattle.std.proofs.lemmas.List.{FromFn.length-range_with_len, Elements.filter-append, Concat.flat_map-append}
+use Rattle.std.proofs.lemmas.{Simd.map-map, List.FromFn.length-range_with_len, List.Concat.flat_map-append}
 use Rattle.std.proofs.lemmas.List.{get_or-map, get_or_default, length-map, same_lists, take_all, Folds.flat_map-map}
-use Rattle.std.proofs.lemmas.{Fmt.decimal_nonempty, Bool.Decides.nat_tests, Bool.and_parts, Bool.eqb-true, Bool.le-ltb}
-use Rattle.std.proofs.Common.{rules, Bool, List, add-one, arith, false, get_or, length, refl, true, zero, ◌++◌, map-id}
-use Rattle.std.proofs.Common.{Ok, [], eqb, ltb, map, not, pos, suc, sym, ◌+◌, ◌-◌, ◌<◌, ◌^◌, ◌∙◌, ◌∷◌, ◌≡◌, ◌≤◌, None}
-use Rattle.qm_obj.proofs.SoupLemmas.{are_below, length-numbers_to, numbers_at, used_renumbered}
+use Rattle.std.proofs.lemmas.{Fmt.decimal_nonempty, Bool.Decides.nat_tests, Bool.and_parts, Bool.le-ltb}
+use Rattle.std.proofs.Common.{rules, Bool, List, arith, false, get_or, length, refl, true, zero, ◌++◌, map-id, ℤ}
+use Rattle.std.proofs.Common.{Ok, [], eqb, ltb, map, not, pos, suc, ◌+◌, ◌-◌, ◌<◌, ◌^◌, ◌∙◌, ◌∷◌, ◌≡◌, ◌≤◌, None}
+use Rattle.qm_obj.proofs.SoupLemmas.{same_images, are_below, length-numbers_to, numbers_at, used_renumbered}
 use Rattle.qm_obj.proofs.LawText.{IsLine, decimal_word, line_words, lines_split, logical_plain, micro_word, plain_lines}
-use Rattle.def_text.specs.Text.{used_to, face_set, line_vertex, numbers_to, position_of, text_soup, readings, soup_of}
+use Rattle.def_text.specs.Text.{used_to, line_vertex, numbers_to, position_of}
 use Rattle.std.specs.{Prelude.decimal, List.range_with_len, List.flat_map, List.list_all, List.list_any, List.filter}
 use Rattle.qm_obj.proofs.{LawText.AreWords, KeptLemmas.reading_suits, KeptLemmas.nothing_kept, CornerLemmas.plain_index}
 use Rattle.qm_obj.proofs.{TailLemmas.passes_at, LawText.line_tame, LawText.line_text, KeptLemmas.kept_alone}
@@ -18,9 +17,8 @@ use Rattle.def_text.specs.{Types.Positions, Reading.reading, Laws.is_position, D
 use Rattle.def_text.specs.{Logical.Logical, Laws.ReadsBack, FaceSet.FaceSet, Decimal.rounded, Corner.resolved}
 use Rattle.def_text.specs.{Words.words, Text.faces, Laws.is_quad, FaceSet.IsSoup, Decimal.is_far, Corner.is_out}
 use Rattle.{qm_scan.proofs.Numbers.number_all, def_feed.specs.Kept.readings_behind, def_feed.specs.Kept.face_readings}
-use Rattle.{qm_obj.specs.Kept.first_late, qm_obj.proofs.LawText.IsWord, def_io.specs.Lines.lines_of}
+use Rattle.{qm_obj.specs.Kept.first_late, qm_obj.proofs.LawText.IsWord, std.proofs.lemmas.Grind.common_steps}
 use Rattle.{std.proofs.Common.ap, std.proofs.Common.ℕ, def_mesh.specs.Faces.Faces, def_io.specs.Bytes.Lines}
-use Rattle.{std.proofs.Common.ℤ}
 
 -- What holds at each position of two lists holds at each position of both together, and of a map what holds of each
 -- image.
@@ -37,8 +35,7 @@ each_map {X} {Y} P f xs c d each k l = grind (arith, common_steps, each k)
 -- What images of images are, where all elements pass a test.
 images_are : {X Y Z : Type 0} (p : X → Bool) (f : X → Y) (g : Y → Z) (h : X → Z)
     → ((x : X) → p x ≡ true → g (f x) ≡ h x) → (xs : List X) → list_all p xs ≡ true → map g (map f xs) ≡ map h xs
-images_are p f g h same [] all = refl
-images_are p f g h same (x ∷ xs) all = grind (arith, same x, images_are p f g h same xs)
+images_are p f g h same xs all = map-map g f xs ∙ same_images p (λ x. g (f x)) h same xs all
 
 -- The lines of the canonical text, without their ends.
 abbrev pub position_line : List ℤ → List ℕ
@@ -78,15 +75,13 @@ positions_say (z ∷ zs) near = grind (arith, nat_tests, canonical_law z, positi
 
 pub position_line_is : (position : List ℤ) → is_position position ≡ true → IsLine (position_line position)
 position_line_is position is =
-    let three : length position ≡ 3 = eqb-true _ _ (and_parts _ _ is).0 in
-    line_tame _ _ refl (omega (arith, length-map position micro_text)) (position_words _ is)
+    line_tame _ _ refl (grind (arith, nat_tests, length-map position micro_text)) (position_words _ is)
 
 position_said : (vertices faces n : ℕ) (position : List ℤ) → vertices < 2 ^ 21 → is_position position ≡ true
     → reading vertices faces (plain_line n (position_line position)) ≡ Position position
 position_said vertices faces n position few is =
-    let parts = and_parts (eqb (length position) 3) _ is in
-    let three : length (map micro_text position) ≡ 3 = length-map position micro_text ∙ eqb-true _ _ parts.0 in
-    let says = positions_say position parts.1 in
+    let three : length (map micro_text position) ≡ 3 = grind (arith, nat_tests, length-map position micro_text) in
+    let says = positions_say position (and_parts (eqb (length position) 3) _ is).1 in
     let first = take_all 3 (map micro_text position) (omega arith) in
     let said = line_words 118 (map micro_text position) refl (position_words position is) in
     said_by_words vertices faces n (position_line_is position is) (search rules)
@@ -114,17 +109,15 @@ faces_say vertices (v ∷ vs) few all = grind (arith, nat_tests, names_vertex ve
 pub face_line_is : (vertices : ℕ) (face : List ℕ) → vertices ≤ 2 ^ 21 → is_quad face ≡ true → are_below vertices face
     ≡ true → IsLine (face_line face)
 face_line_is vertices face few is all =
-    let four : length face ≡ 4 = eqb-true _ _ is in
-    line_tame _ _ refl (omega (arith, length-map face vertex_word)) (face_words _ _ few all)
+    line_tame _ _ refl (grind (arith, nat_tests, length-map face vertex_word)) (face_words _ _ few all)
 
 face_said : (vertices faces n : ℕ) (face : List ℕ) → vertices ≤ 2 ^ 21 → faces < 2 ^ 20 → is_quad face ≡ true
     → are_below vertices face ≡ true
     → reading vertices faces (plain_line n (face_line face)) ≡ Face n (map (λ v. v + 1) face)
 face_said vertices faces n face few room is all =
-    let four : eqb (length (map vertex_word face)) 4 ≡ true = ap (λ m. eqb m 4) (length-map face vertex_word) ∙ is in
     let says = faces_say vertices face few all in
     let said = line_words 102 (map vertex_word face) refl (face_words _ _ few all) in
-    said_by_words _ _ n (face_line_is _ _ few is all) (search rules)
+    said_by_words _ _ n (face_line_is _ _ few is all) (search (rules, says, said, length-map face vertex_word))
 
 -- What the lines of all positions say, with lines behind them, and what those of all faces say.
 positions_are_said : (v f n : ℕ) (ps : Positions) (ls : Lines) → list_all is_position ps ≡ true → v + length ps ≤ 2 ^ 21
@@ -132,21 +125,18 @@ positions_are_said : (v f n : ℕ) (ps : Positions) (ls : Lines) → list_all is
     ≡ map Position ps ++ readings_behind (v + length ps) f (plain_lines (n + length ps) ls)
 positions_are_said v f n [] ls all few = grind arith
 positions_are_said v f n (p ∷ ps) ls all few =
-    let parts = and_parts (is_position p) _ all in
-    let said = position_said v f n p (omega arith) parts.0 in
-    let kind = rw said at (reading_suits v f (plain_line n (position_line p))) in
-    rw (said, kind.0, kind.1) (grind (arith, positions_are_said (v + 1) f (n + 1) ps ls parts.1 (omega arith)))
+    let said = position_said v f n p in
+    let kind = reading_suits v f (plain_line n (position_line p)) in
+    grind (arith, said, kind, positions_are_said (v + 1) f (n + 1) ps ls)
 
 faces_said : (v f n : ℕ) (fs : Faces) → v ≤ 2 ^ 21 → list_all is_quad fs ≡ true → list_all (are_below v) fs ≡ true
     → f + length fs ≤ 2 ^ 20 → readings_behind v f (plain_lines n (map face_line fs))
     ≡ face_readings (range_with_len n (length fs)) (map (λ face. map (λ v. v + 1) face) fs)
 faces_said v f n [] few quads below room = refl
 faces_said v f n (face ∷ fs) few quads below room =
-    let q = and_parts (is_quad face) _ quads in
-    let b = and_parts (are_below v face) _ below in
-    let said = face_said v f n face few (omega arith) q.0 b.0 in
-    let kind = rw said at (reading_suits v f (plain_line n (face_line face))) in
-    rw (said, kind.0, kind.1) (grind (arith, faces_said v (f + 1) (n + 1) fs few q.1 b.1 (omega arith)))
+    let said = face_said v f n face in
+    let kind = reading_suits v f (plain_line n (face_line face)) in
+    grind (arith, said, kind, faces_said v (f + 1) (n + 1) fs)
 
 -- None of them is late.
 not_late : (n : ℕ) (fs : Faces) (l : List ℕ) → list_all (are_below n) fs ≡ true
@@ -157,7 +147,7 @@ not_late n (f ∷ fs) (line ∷ l) all = grind (arith, calm f, not_late n fs l)
     calm [] below = refl
     calm (v ∷ f) below = grind (arith, nat_tests, calm f)
 not_late n [] l all = refl
-not_late n (f ∷ fs) [] all = refl
+not_late n _ _ all = refl
 
 -- Where all are used, all are kept.
 keeps_all : (p : ℕ → Bool) (n : ℕ) → ((k : ℕ) → k < n → p (k + 1) ≡ true) → filter p (numbers_to n) ≡ numbers_to n
@@ -172,10 +162,9 @@ positions_back : (ps : Positions) → map (position_of ps) (numbers_to (length p
 positions_back ps =
     let long = length-map (numbers_to (length ps)) (position_of ps) ∙ length-numbers_to _ in
     same_lists (map (position_of ps) (numbers_to (length ps))) ps long (λ k d l.
-    let there : k < length ps = omega arith in
-    let e : k + 1 - 1 ≡ k = omega arith in
-    get_or-map _ _ k 0 d (omega (arith, length-numbers_to (length ps))) ∙ ap (position_of ps) (numbers_at _ k there)
-    ∙ ap (λ j. get_or ps j []) e ∙ get_or_default ps k [] d there)
+    let read = get_or-map (position_of ps) (numbers_to (length ps)) k 0 d in
+    let many = length-numbers_to (length ps) in
+    grind (arith, read, many, numbers_at (length ps) k, get_or_default ps k [] d))
 
 faces_back : (fs : Faces) (n : ℕ) → ((k : ℕ) → k ≤ n → used_to fs k ≡ numbers_to k) → (some : Faces)
     → list_all (are_below n) some ≡ true
@@ -189,20 +178,20 @@ pub text_back : ReadsBack
 text_back s is =
     let soup = is.soup in
     let lines = canonical_lines s in
-    let n = 1 + length s.pos in
+    let v = length s.pos in
+    let count = range_with_len (1 + v) (length s.faces) in
     let named = map (λ f. map (λ v. v + 1) f) s.faces in
-    let each = each_both IsLine (map position_line s.pos) (map face_line s.faces) [] (each_map IsLine position_line
-    s.pos [] [] (λ k l. position_line_is (get_or s.pos k []) (passes_at is_position s.pos k [] is.positions l)))
-    (each_map IsLine face_line s.faces [] [] (λ k l. face_line_is (length s.pos) (get_or s.faces k []) is.few_vertices
-    (passes_at is_quad s.faces k [] is.quads l) (passes_at (are_below (length s.pos)) s.faces k [] soup.in_range l))) in
-    let count = range_with_len n (length s.faces) in
-    let sizes : length count ≡ length named = grind (arith, common_steps, length-range_with_len n (length s.faces)) in
+    let each = each_both IsLine (map position_line s.pos) (map face_line s.faces) []
+    (each_map IsLine position_line s.pos [] [] (λ k l. position_line_is (get_or s.pos k [])
+    (passes_at is_position s.pos k [] is.positions l)))
+    (each_map IsLine face_line s.faces [] [] (λ k l. face_line_is v (get_or s.faces k []) is.few_vertices
+    (passes_at is_quad s.faces k [] is.quads l) (passes_at (are_below v) s.faces k [] soup.in_range l))) in
+    let long = length-range_with_len (1 + v) (length s.faces) in
+    let sizes : length count ≡ length named = grind (arith, common_steps, long) in
     let said = positions_are_said 0 0 1 s.pos (map face_line s.faces) is.positions (omega arith) in
-    let behind = faces_said (length s.pos) 0 n s.faces is.few_vertices is.quads soup.in_range (omega arith) in
+    let behind = faces_said v 0 (1 + v) s.faces is.few_vertices is.quads soup.in_range (omega arith) in
     let used = all_used_to s soup in
-    let at_v : 0 + length s.pos ≡ length s.pos = omega arith in
-    let kept : soup_of (readings_behind 0 0 (plain_lines 1 lines)) ≡ Ok (face_set s.pos named) = rw (said, at_v, behind)
-    (kept_alone s.pos named count sizes ∙ rw (not_late (length s.pos) s.faces count soup.in_range) refl) in
-    ap (text_soup 1) (ap lines_of (text_lines s) ∙ lines_split lines each)
-    ∙ ap (λ (ls : List Logical). soup_of (readings [] ls)) (logical_plain 1 lines each)
-    ∙ sym (nothing_kept (plain_lines 1 lines)) ∙ kept ∙ ap Ok (search (rules, positions_back, faces_back))
+    let at_v : 0 + v ≡ v = omega arith in
+    rw (text_lines s, lines_split lines each, logical_plain 1 lines each, ← nothing_kept (plain_lines 1 lines))
+    (rw (said, at_v, behind, kept_alone s.pos named count sizes, not_late v s.faces count soup.in_range)
+    (ap Ok (search (rules, positions_back, faces_back))))

@@ -1,17 +1,16 @@
 -- The used positions and the faces over them are a soup.
-use Rattle.std.proofs.lemmas.Grind.{common_steps}
 use Rattle.std.proofs.lemmas.List.{Sums.count_by-le-length, Kept.IsStrictlyIncreasing-filter, Elements.filter-append}
 use Rattle.std.proofs.lemmas.List.{get_or_append_left, length-append, Sums.length-filter, Elements.filter_passes}
-use Rattle.std.proofs.lemmas.List.{get_or_push, length_push, append-nil, length-map, take_more_set, drop_more, map_push}
-use Rattle.std.proofs.lemmas.{Grind.drop_more_same, Bool.Decides.nat_tests, Bool.false≢true, Bool.cases_lt}
+use Rattle.std.proofs.lemmas.List.{get_or_push, length_push, length-map, take_more_set, drop_more, map_push}
+use Rattle.std.proofs.lemmas.Bool.{Decides.nat_tests, cases_eq, cases_lt, false≢true}
 use Rattle.std.proofs.Common.{rules, Bool, List, None, arith, cond, false, get_or, length, nat_lt, refl, true, zero, []}
-use Rattle.std.proofs.Common.{eqb, ◌&&◌, leb, ltb, map, suc, sym, ℕ, ◌++◌, ◌+◌, ◌-◌, ◌<◌, ◌∙◌, ◌∷◌, ◌≡◌, ◌≤◌, drop, set}
+use Rattle.std.proofs.Common.{eqb, ◌&&◌, leb, ltb, map, suc, sym, ℕ, ◌++◌, ◌+◌, ◌-◌, ◌<◌, ◌∷◌, ◌≡◌, ◌≤◌, drop, set}
 use Rattle.qm_obj.specs.Kept.{are_numbers, first_late, IsCounted, IsKept, IsMarked, chosen}
 use Rattle.def_text.specs.Text.{line_vertex, numbers_to, position_of, face_set, used_to}
 use Rattle.std.specs.{Prelude.IsTrue, List.Sorted.IsStrictlyIncreasing, List.list_all, List.list_any}
 use Rattle.def_text.{specs.Types.Positions, specs.FaceSet.FaceSet, specs.FaceSet.IsSoup}
 use Rattle.{qm_obj.proofs.TailLemmas.back_more, qm_obj.proofs.TailLemmas.at_back, def_mesh.specs.Vertices.is_used}
-use Rattle.{std.proofs.Common.ap, def_mesh.specs.Faces.Faces}
+use Rattle.{def_mesh.specs.Faces.Faces, std.proofs.lemmas.Grind.drop_more_same, std.proofs.lemmas.Grind.common_steps}
 
 -- Each of these numbers is below n.
 abbrev pub are_below : ℕ → List ℕ → Bool
@@ -34,17 +33,12 @@ pub used_more : (faces : Faces) (n : ℕ) → used_to faces (suc n) ≡ used_to 
     (suc n ∷ []) []
 used_more faces n = filter-append (is_used faces) (numbers_to n) (suc n ∷ [])
 
-used_grows : (faces : Faces) (n m : ℕ) → length (used_to faces n) ≤ length (used_to faces (n + m))
-used_grows faces n zero = let e : n + 0 ≡ n = omega arith in rw e (omega arith)
-used_grows faces n (suc m) =
-    let e : n + suc m ≡ suc (n + m) = omega arith in search (rules, used_more, length-append, used_grows faces n m)
-
 -- A used number has fewer used ones before it than there are.
 rank_below : (faces : Faces) (n k : ℕ) → 0 < k → k ≤ n → is_used faces k ≡ true
     → line_vertex faces k < length (used_to faces n)
-rank_below faces n (suc k) some le is =
-    let up : suc k + (n - suc k) ≡ n = omega arith in search (rules, used_grows, used_more, length_push)
-rank_below faces n zero some le is = absurd (omega arith)
+rank_below faces (suc n) k some le is =
+    search (rules, cases_eq k (suc n), used_more, length-append, rank_below faces n k some)
+rank_below faces zero k some le is = absurd (omega arith)
 
 -- The number at a position has as many used ones before it.
 rank_at : (faces : Faces) (n v : ℕ) → v < length (used_to faces n) → line_vertex faces (get_or (used_to faces n) v 0)
@@ -128,7 +122,7 @@ chosen_used faces n marks marked zero le = refl
 chosen_used faces n marks marked (suc k) le = search (rules, filter-append, chosen_used faces n marks marked k)
 
 -- Two functions have the same images, where they agree on all that passes a test.
-same_images : {X Y : Type 0} (p : X → Bool) (f g : X → Y) → ((x : X) → p x ≡ true → f x ≡ g x) → (xs : List X)
+pub same_images : {X Y : Type 0} (p : X → Bool) (f g : X → Y) → ((x : X) → p x ≡ true → f x ≡ g x) → (xs : List X)
     → list_all p xs ≡ true → map f xs ≡ map g xs
 same_images p f g same [] all = refl
 same_images p f g same (x ∷ xs) all = grind (arith, same x, same_images p f g same xs)
@@ -146,8 +140,6 @@ pub made_of : (positions : Positions) (faces : Faces) (marks : List Bool) (made 
     ≡ map (position_of positions) (chosen marks (length marks)) → made.faces
     ≡ map (λ corners. map (λ corner. get_or vertices (corner - 1) 0) corners) faces → made ≡ face_set positions faces
 made_of positions faces marks made vertices marked known counted names places renumbered =
-    let n = length positions in
-    let all = ap (chosen marks) marked.size ∙ chosen_used faces n marks marked n (omega arith) in
-    let one : (k : ℕ) → (ltb 0 k && leb k n) ≡ true → get_or vertices (k - 1) 0 ≡ line_vertex faces k = λ k is.
-    grind (arith, nat_tests, counted.each (k - 1), chosen_used faces n marks marked (k - 1)) in
-    search (rules, same_images)
+    let one : (k : ℕ) → (ltb 0 k && leb k (length positions)) ≡ true → get_or vertices (k - 1) 0 ≡ line_vertex faces k =
+    λ k is. grind (arith, nat_tests, counted.each (k - 1), chosen_used faces (length positions) marks marked (k - 1)) in
+    search (rules, same_images, chosen_used)

@@ -1,13 +1,12 @@
 -- Lists that a loop changes position by position.
-use Rattle.std.proofs.lemmas.Grind.{common_steps}
 use Rattle.std.proofs.lemmas.List.Sums.{AllPass-from_list_all, sum_by-append, sum_by-cons, list_all-from_AllPass}
-use Rattle.std.proofs.lemmas.List.{length-take-le, take-append-drop, append-nil, Folds.list_any_none, Folds.list_any_at}
+use Rattle.std.proofs.lemmas.List.{take-append-drop, append-nil, Folds.list_any_none, Folds.list_any_at}
 use Rattle.std.proofs.lemmas.List.{drop-set-lt, get_or-drop, length-drop, length-take, take_more_set, length-append}
 use Rattle.std.proofs.lemmas.List.{drop-drop, drop-take, map_more, get_or_push, take_more, take_rest, take_at}
-use Rattle.std.specs.List.{before_first, position_or_len, list_all, count_by, list_any}
-use Rattle.std.proofs.lemmas.{Grind.drop_more_same, Bool.false_from_ne_true, Bool.both_ways}
+use Rattle.std.specs.List.{before_first, list_all, count_by, list_any}
+use Rattle.std.proofs.lemmas.{Grind.drop_more_same, Bool.false_from_ne_true, Bool.both_ways, Grind.common_steps}
 use Rattle.std.proofs.Common.{rules, ◌≡◌, Bool, true, List, ◌++◌, length, take, drop, get_or, refl, arith, cond, false}
-use Rattle.std.proofs.Common.{ℕ, ◌+◌, ◌-◌, ◌<◌, ◌≤◌, [], ◌∷◌, set, map, sym, ap, ◌∙◌, eqb, suc}
+use Rattle.std.proofs.Common.{ℕ, ◌+◌, ◌-◌, ◌<◌, ◌≤◌, [], ◌∷◌, set, map, ap, ◌∙◌, eqb}
 use Rattle.def_io.specs.{Lines.without_last, Lines.lines_of, Lines.line_of, Lines.pieces, Bytes.Bytes, Bytes.Lines}
 use Rattle.{std.specs.Prelude.slice_range, std.proofs.Math.Seq.take-add, def_feed.specs.Feed.is_line_feed}
 
@@ -60,10 +59,6 @@ all_before p (x ∷ xs) none = grind (arith, common_steps, all_before p xs)
 
 -- Physical lines of a text whose last bytes are not ended.
 
--- A piece with its last byte taken off is at most one shorter.
-short_last : (byte : ℕ) (piece : Bytes) → length piece ≤ length (without_last byte piece) + 1
-short_last byte piece = grind (arith, length-take-le (length piece - 1) piece (omega arith))
-
 -- A line feed is taken off, and nothing where there is none.
 fed_last : (prefix : Bytes) → without_last 10 (prefix ++ 10 ∷ []) ≡ prefix
 fed_last prefix = grind (arith, length-append prefix (10 ∷ []), get_or_push prefix 10 0, take_at prefix (10 ∷ []))
@@ -93,11 +88,11 @@ lines_fed prefix more none = search (rules, by_prefix, fed_last, same_last)
 -- The first line of a text with these bytes in front, and the lines behind it.
 pub first_line : (prefix more : Bytes) → list_any is_line_feed prefix ≡ false → 0 < length prefix
     → (line : Bytes) × (rest : Lines) × (lines_of (prefix ++ more) ≡ line ∷ rest) × (length prefix ≤ length line + 1)
-first_line prefix more none some = (_, _, ap (map line_of) (opens prefix more none some), search (rules, kept))
+first_line prefix more none some =
+    (_, _, ap (map line_of) (opens prefix more none some), kept (get_or (pieces more) 0 []))
   where
-    kept : (behind : Bytes) → length prefix ≤ length (without_last 10 (prefix ++ behind))
-    kept [] = rw (append-nil prefix, same_last 10 prefix none) (omega arith)
-    kept (b ∷ bs) = omega (arith, short_last 10 (prefix ++ b ∷ bs), length-append prefix (b ∷ bs))
+    kept : (behind : Bytes) → length prefix ≤ length (line_of (prefix ++ behind)) + 1
+    kept behind = grind (arith, common_steps, same_last 10 prefix, length-append prefix behind, append-nil prefix)
 
 -- A text without line feed is one line, where it is not empty.
 pub lines_open : (prefix : Bytes) → list_any is_line_feed prefix ≡ false → 0 < length prefix

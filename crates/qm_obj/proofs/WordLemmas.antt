@@ -1,21 +1,20 @@
 -- The words of a line, one after another.
-use Rattle.std.proofs.lemmas.Grind.{common_steps}
 use Rattle.def_text.specs.declared.refusal.ObjFail.TheVariants.{NotQuad, Range, Syntax}
 use Rattle.def_text.specs.declared.reading.Reading.TheVariants.{Passed, Face, Position, Refused}
-use Rattle.std.proofs.lemmas.List.{get_or-take, length-drop, length-take-le, Folds.list_all_more, Folds.list_all_at}
+use Rattle.std.proofs.lemmas.List.{get_or-take, length-drop, length-take, length-take-le, Folds.list_all_more}
 use Rattle.std.proofs.lemmas.List.{drop_more, get_or-map, length-map, same_lists, take_all}
-use Rattle.std.proofs.lemmas.Bool.{cases_Bool, or_left, or_right, true≢false, Decides.nat_tests}
+use Rattle.std.proofs.lemmas.Bool.{cases_Bool, true≢false, Decides.nat_tests}
 use Rattle.std.specs.List.{position_or_len, before_first, list_all, list_any}
 use Rattle.std.proofs.Common.{rules, Bool, List, None, Some, arith, cond, drop, false, get_or, length, refl, take, true}
-use Rattle.std.proofs.Common.{[], ap, eqb, inl, inr, map, set, suc, sym, ◌+◌, ◌<◌, ◌∙◌, ◌∷◌, ◌≡◌, ◌≤◌, ◌^◌, ℕ}
+use Rattle.std.proofs.Common.{[], ap, eqb, map, set, suc, sym, ◌+◌, ◌<◌, ◌∙◌, ◌∷◌, ◌≡◌, ◌≤◌, ◌^◌, ℕ}
 use Rattle.qm_obj.specs.Lines.{uncommented, with_word, IsFilled, IsReadTo, is_end}
 use Rattle.def_text.specs.Reading.{face_reading, is_letter, vertex_reading, words_reading, is_position_count}
 use Rattle.def_text.specs.Corner.{is_corner_word, used_index, is_out, resolved}
 use Rattle.qm_obj.specs.{declared.position.Coordinate.Coordinate, Positions.coordinate, Indices.with_clamped}
 use Rattle.qm_obj.specs.{Positions.all_near, Indices.corner_of, Indices.clamped}
-use Rattle.def_text.specs.{Words.ends_word, Words.is_blank, Logical.is_hash, Decimal.is_decimal, Decimal.rounded}
+use Rattle.def_text.specs.{Words.is_blank, Logical.is_hash, Decimal.is_decimal, Decimal.rounded}
 use Rattle.def_text.specs.{Words.words, Types.Words, Text.faces, Decimal.is_far}
-use Rattle.{std.specs.Option.option_map_or, qm_obj.proofs.TailLemmas.all_before, def_io.specs.Lines.byte_in_front}
+use Rattle.{std.specs.Option.option_map_or, qm_obj.proofs.TailLemmas.all_before, std.proofs.lemmas.Grind.common_steps}
 
 -- A text that begins with no blank has its prefix up to the first blank as its first word.
 pub words_word : (b : ℕ) (bs : List ℕ) → is_blank b ≡ false → words (b ∷ bs)
@@ -42,11 +41,7 @@ first_word (b ∷ bs) at_word =
     let e : 1 + position_or_len is_end bs ≡ suc (position_or_len is_end bs) = omega arith in
     search (rules, word_ahead)
 
--- A line is no longer without its comment, which is what stands from its first `#` on.
-pub uncommented_short : (line : List ℕ) → length (uncommented line) ≤ length line
-uncommented_short [] = omega arith
-uncommented_short (b ∷ bs) = grind (arith, uncommented_short bs)
-
+-- A line without its comment is what stands before its first `#`.
 pub uncommented_is : (line : List ℕ) → uncommented line ≡ before_first is_hash line
 uncommented_is [] = refl
 uncommented_is (b ∷ bs) =
@@ -59,14 +54,13 @@ uncommented_none line none = uncommented_is line ∙ all_before is_hash line non
 -- No text has more words than bytes.
 pub words_few : (bytes : List ℕ) → length (words bytes) ≤ length bytes
 words_few [] = omega arith
-words_few (b ∷ bs) =
-    let by_blank : (t : Bool) → length (words bs) ≤ length bs → length (cond t (words bs) (cond (ends_word bs)
-    ((b ∷ []) ∷ words bs) (byte_in_front b (words bs)))) ≤ suc (length bs) = λ t few. grind (arith) in
-    by_blank (is_blank b) (words_few bs)
+words_few (b ∷ bs) = search (rules, cases_Bool (is_blank b), words_few bs)
 
 -- Nor has a line more words than bytes in front of its comment.
 pub words_short : (line : List ℕ) → length (words (uncommented line)) ≤ length line
-words_short line = omega (arith, words_few (uncommented line), uncommented_short line)
+words_short line =
+    let cut = length-take (position_or_len is_hash line) line in
+    rw (uncommented_is line) (omega (arith, words_few (before_first is_hash line), cut))
 
 -- The slots have what the first words say.
 pub filled_all : {X : Type 0} (says : List ℕ → X) (all : Words) (count size : ℕ) (slots : List X) → size ≤ count
@@ -84,26 +78,20 @@ pub fewer_left : (word : List ℕ) (after : Words) {rest : Words} {none : Bool} 
 fewer_left [] after first is some = absurd (true≢false (sym is ∙ some))
 fewer_left (b ∷ bs) after first is some = omega (arith, ap length first)
 
--- Where the next word is one, it is the word at this position.
-next_read : {X : Type 0} {test : List ℕ → Bool} {says : List ℕ → X} {all : Words} {size count : ℕ} {rest : Words}
-    {slots : List X} → IsReadTo test says all size count rest slots → (word : List ℕ) {after : Words} {none : Bool}
-    → rest ≡ with_word word after → none ≡ eqb (length word) 0 → none ≡ false
-    → (count < length all) × (get_or all count [] ≡ word) × (after ≡ drop (count + 1) all)
-next_read read [] first is some = absurd (true≢false (sym is ∙ some))
-next_read {all = all} {count = count} read (b ∷ bs) {after} first is some =
-    grind (arith, common_steps, drop_more all count [])
-
 module _ {X : Type 0} {test : List ℕ → Bool} {says : List ℕ → X} {all : Words} {size count : ℕ} {rest : Words}
     {slots : List X} (read : IsReadTo test says all size count rest slots) (word : List ℕ) (after : Words) {none : Bool}
     (first : rest ≡ with_word word after) (is : none ≡ eqb (length word) 0) where
-  -- The next word passes the test, and what it says is put into its slot; or it does not pass.
+  -- Where the next word is one, it is the word at this position.
+  next_read : none ≡ false → (count < length all) × (get_or all count [] ≡ word) × (after ≡ drop (count + 1) all)
+  next_read some = grind (arith, common_steps, drop_more all count [])
+
+  -- It passes the test, and what it says is put into its slot; or it does not pass.
   pub read_more : {x : X} → none ≡ false → cond (test word) (Some (says word)) None ≡ Some x
       → IsReadTo test says all size (count + 1) after (set slots count x)
-  read_more {x} some says_x =
-      let next = next_read read word first is some in search (rules, list_all_more)
+  read_more {x} some says_x = let next = next_read some in search (rules, list_all_more)
 
   pub read_bad : none ≡ false → cond (test word) (Some (says word)) None ≡ None → list_all test all ≡ false
-  read_bad some says_none = grind (arith, common_steps, next_read read word first is some)
+  read_bad some says_none = grind (arith, common_steps, next_read some)
 
   -- No word is left, so all are read, each passes the test, and the slots have what the first ones say.
   all_read : none ≡ true → (length all ≡ count) × (list_all test all ≡ true)

@@ -1,5 +1,4 @@
 use Rattle.std.proofs.Common.{arith}
-use Rattle.std.proofs.{Common.◌∙◌, Common.sym, Common.refl, lemmas.Bool.eq-eqb}
 use Rattle.qm_obj.proofs.JoinLemmas.{no_hash}
 
 pub returns-then-last-eq-BACKSLASH : Rattle.qm_obj.proofs.joining.goes_on.Goals.returns-then-last-eq-BACKSLASH

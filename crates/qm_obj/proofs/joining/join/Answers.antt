@@ -1,6 +1,5 @@
-use Rattle.std.proofs.Common.{rules}
+use Rattle.std.proofs.Common.{rules, ◌∙◌}
 use Rattle.{qm_obj.proofs.JoinLemmas.joined_last, qm_obj.proofs.JoinLemmas.joining_more, std.proofs.Common.sym}
-use Rattle.{std.proofs.Common.◌∙◌}
 use Rattle.qm_obj.proofs.joining.join.Goals as goal
 
 pub returns-then-not-goes_on : goal.returns-then-not-goes_on

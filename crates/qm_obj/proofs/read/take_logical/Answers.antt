@@ -1,6 +1,5 @@
 use Rattle.std.proofs.Common.{rules}
-use Rattle.qm_obj.{proofs.JoinLemmas.same_refused, proofs.JoinLemmas.single_logical, proofs.JoinLemmas.same_took}
-use Rattle.{error_laws.proofs.Errors.handed, std.proofs.Common.sym, std.proofs.Common.◌∙◌}
+use Rattle.qm_obj.proofs.JoinLemmas.{single_logical}
 use Rattle.qm_obj.proofs.read.take_logical.Goals as goal
 
 pub returns-clause-kept : goal.returns-clause-kept

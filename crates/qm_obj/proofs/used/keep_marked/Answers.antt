@@ -1,5 +1,5 @@
 use Rattle.std.proofs.Common.{rules, [], ap, arith, below_more, get_or, length, ◌++◌, ◌∙◌, ◌∷◌, ◌≡◌}
-use Rattle.std.proofs.{lemmas.List.get_or_append_left, lemmas.List.get_or_push, lemmas.Grind.common_steps}
+use Rattle.std.proofs.{lemmas.List.get_or_append_left, lemmas.List.get_or_push}
 use Rattle.qm_obj.proofs.used.keep_marked.Goals.{else-marks-k, then-marks-k+in_ok-keep_position}
 use Rattle.{qm_obj.proofs.SoupLemmas.kept_mark, qm_obj.proofs.SoupLemmas.kept_skip, qm_obj.specs.Kept.chosen}
 

@@ -1,4 +1,4 @@
-use Rattle.std.proofs.Common.{rules, ap, arith, get_or, length, map, ◌-◌, ◌<◌, ◌∙◌, ◌≡◌}
+use Rattle.std.proofs.Common.{rules, get_or, ◌-◌, ◌∙◌, ◌≡◌}
 use Rattle.qm_obj.proofs.TailLemmas.{at_back, back_more, mapped_more, passes_at}
 use Rattle.{std.proofs.lemmas.List.length-set, qm_obj.proofs.used.renumber.Goals.After-index}
 use Rattle.qm_obj.proofs.used.renumber.Goals as goal

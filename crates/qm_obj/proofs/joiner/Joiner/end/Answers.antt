@@ -1,6 +1,7 @@
+use Rattle.std.proofs.Common.{rules, arith, []}
 use Rattle.qm_obj.proofs.FeedLemmas.{ended_line, is_nothing, is_something, long_line, refused_line, sound_of}
-use Rattle.qm_obj.{specs.Views.kept_of, proofs.JoinLemmas.behind_joined, proofs.JoinLemmas.behind_alone}
-use Rattle.{std.proofs.Common.rules, std.proofs.Common.arith, std.proofs.Common.[], error_laws.proofs.Errors.handed}
+use Rattle.qm_obj.proofs.JoinLemmas.{behind_alone, behind_joined}
+use Rattle.{qm_obj.specs.Views.kept_of, error_laws.proofs.Errors.handed}
 use Rattle.qm_obj.proofs.joiner.Joiner.end.Goals as goal
 
 pub returns-in_err-take-clause-refused : goal.returns-in_err-take-clause-refused

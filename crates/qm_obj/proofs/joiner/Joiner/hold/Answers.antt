@@ -1,5 +1,6 @@
-use Rattle.qm_obj.proofs.{JoinLemmas.joined_more, JoinLemmas.behind_held, FeedLemmas.long_line, FeedLemmas.sound_of}
-use Rattle.{std.proofs.Common.arith, std.proofs.Common.refl, std.proofs.Common.[], qm_obj.specs.Views.kept_of}
+use Rattle.std.proofs.Common.{arith, refl, []}
+use Rattle.qm_obj.{proofs.JoinLemmas.joined_more, proofs.JoinLemmas.behind_held, proofs.FeedLemmas.long_line}
+use Rattle.qm_obj.{proofs.FeedLemmas.sound_of, specs.Views.kept_of}
 use Rattle.qm_obj.proofs.joiner.Joiner.hold.Goals as goal
 
 pub returns-clause-took : goal.returns-clause-took

@@ -1,8 +1,5 @@
-use Rattle.std.proofs.Common.{arith}
-use Rattle.qm_obj.proofs.FeedLemmas.{is_nothing, is_something, last_refused, last_same, sound_of}
-use Rattle.std.proofs.{lemmas.List.append-nil, Common.rules, Common.◌∙◌, Common.[], Common.ap}
-use Rattle.{error_laws.proofs.Errors.handed, def_text.specs.Text.soup_of, def_feed.specs.Kept.kept_readings}
-use Rattle.{qm_obj.specs.Views.kept_of}
+use Rattle.std.proofs.Common.{arith, rules}
+use Rattle.qm_obj.proofs.FeedLemmas.{is_nothing, last_refused, last_same, sound_of}
 use Rattle.qm_obj.proofs.joiner.Joiner.read_rest.Goals as goal
 
 pub returns-then-is_empty-clause-same : goal.returns-then-is_empty-clause-same

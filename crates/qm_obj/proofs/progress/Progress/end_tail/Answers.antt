@@ -1,6 +1,5 @@
-use Rattle.std.proofs.Common.{rules}
-use Rattle.{qm_obj.proofs.FeedLemmas.fed_piece, qm_obj.proofs.FeedLemmas.sound_at, qm_obj.specs.Views.kept_of}
-use Rattle.std.proofs.{lemmas.List.append-nil, Common.refl, Common.[]}
+use Rattle.std.proofs.Common.{rules, refl, []}
+use Rattle.qm_obj.proofs.FeedLemmas.{fed_piece, sound_at}
 use Rattle.qm_obj.proofs.progress.Progress.end_tail.Goals as goal
 
 pub returns : goal.returns
