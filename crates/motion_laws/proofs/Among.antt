@@ -1,10 +1,10 @@
 -- Lists of darts: what stands among them, filters, and lists without repeats.
-use Rattle.std.proofs.Common.{rules, ◌≡◌, ◌⊎◌, ℕ, zero, suc, Bool, true, false, cond, eqb, ◌&&◌, ◌+◌, ◌<◌, ◌≤◌, List}
-use Rattle.std.proofs.Common.{arith, [], ◌∷◌, Option, Some, None, sym, ap, ◌∙◌, refl, inl, inr}
-use Rattle.std.proofs.lemmas.Bool.{or_left, or_right, or_cases, eq-eqb, eqb-true, and_parts, false≢true}
+use Rattle.std.proofs.Common.{rules, ◌≡◌, ◌⊎◌, ℕ, zero, suc, Bool, true, false, eqb, ◌+◌, ◌<◌, ◌≤◌, List}
+use Rattle.std.proofs.Common.{arith, [], ◌∷◌, Option, Some, None, sym, refl, inl, inr}
+use Rattle.std.proofs.lemmas.Bool.{or_left, or_right, or_cases, eq-eqb, eqb-true, false≢true, cases_Bool}
 use Rattle.std.specs.List.{filter, list_any, list_all, range_with_len}
 use Rattle.list_laws.proofs.Filters.{any_in_range, range_any}
-use Rattle.def_cut.specs.Motion.{is_among, is_found}
+use Rattle.def_cut.specs.Motion.{is_among}
 
 -- A value is there or not; a list is empty or not.
 pub cases_Option : {A : Type 0} (o : Option A) → (o ≡ None) ⊎ ((x : A) × (o ≡ Some x))
@@ -25,11 +25,6 @@ among_later d e ds m = or_right _ _ m
 pub among_cases : (d e : ℕ) (ds : List ℕ) → is_among d (e ∷ ds) ≡ true → (d ≡ e) ⊎ (is_among d ds ≡ true)
 among_cases d e ds m = elim (or_cases _ _ m) [ inl s ↦ inl (eqb-true d e s) | inr r ↦ inr r ]
 
--- What is found stands there.
-pub found_where : (o : Option ℕ) (ds : List ℕ) → is_found o ds ≡ true → (e : ℕ) × (o ≡ Some e) × (is_among e ds ≡ true)
-found_where None ds f = absurd (false≢true f)
-found_where (Some e) ds f = (e, refl, f)
-
 -- A test that some dart of the list passes.
 pub any_at : (p : ℕ → Bool) (d : ℕ) (ds : List ℕ) → is_among d ds ≡ true → p d ≡ true → list_any p ds ≡ true
 any_at p d [] m t = absurd (false≢true m)
@@ -46,35 +41,18 @@ all_at p d (e ∷ ds) all m = grind (arith, all_at p d ds)
 
 pub not_all : (p : ℕ → Bool) (ds : List ℕ) → list_all p ds ≡ false → (d : ℕ) × (is_among d ds ≡ true) × (p d ≡ false)
 not_all p [] off = absurd (false≢true (sym off))
-not_all p (e ∷ ds) off = at (p e) refl off (not_all p ds)
-  where
-    at : (b : Bool) → p e ≡ b → (b && list_all p ds) ≡ false → (list_all p ds ≡ false → (d : ℕ) × (is_among d ds ≡ true)
-        × (p d ≡ false)) → (d : ℕ) × (is_among d (e ∷ ds) ≡ true) × (p d ≡ false)
-    at false is off rest = (e, among_here e e ds refl, is)
-    at true is off rest = let r = rest off in (r.0, among_later r.0 e ds r.1, r.2)
+not_all p (e ∷ ds) off = grind (arith, cases_Bool (p e), not_all p ds, among_here, among_later)
 
 -- What stands among a filter.
 pub in_filter : (p : ℕ → Bool) (d : ℕ) (ds : List ℕ) → is_among d ds ≡ true → p d ≡ true → is_among d (filter p ds)
     ≡ true
 in_filter p d [] m t = absurd (false≢true m)
-in_filter p d (e ∷ ds) m t = at (p e) refl (among_cases d e ds m) (in_filter p d ds)
-  where
-    at : (b : Bool) → p e ≡ b → (d ≡ e) ⊎ (is_among d ds ≡ true) → (is_among d ds ≡ true → p d ≡ true → is_among d
-        (filter p ds) ≡ true) → is_among d (cond b (e ∷ filter p ds) (filter p ds)) ≡ true
-    at true k (inl s) rest = among_here d e (filter p ds) s
-    at true k (inr r) rest = among_later d e (filter p ds) (rest r t)
-    at false k (inl s) rest = absurd (false≢true (sym k ∙ (ap p (sym s) ∙ t)))
-    at false k (inr r) rest = rest r t
+in_filter p d (e ∷ ds) m t = grind (arith, cases_Bool (p e), among_cases d e ds m, in_filter p d ds)
 
 pub from_filter : (p : ℕ → Bool) (d : ℕ) (ds : List ℕ) → is_among d (filter p ds) ≡ true → (is_among d ds ≡ true)
     × (p d ≡ true)
 from_filter p d [] m = absurd (false≢true m)
-from_filter p d (e ∷ ds) m = at (p e) refl m (from_filter p d ds)
-  where
-    at : (b : Bool) → p e ≡ b → is_among d (cond b (e ∷ filter p ds) (filter p ds)) ≡ true → (is_among d (filter p ds)
-        ≡ true → (is_among d ds ≡ true) × (p d ≡ true)) → (is_among d (e ∷ ds) ≡ true) × (p d ≡ true)
-    at true k m rest = search rules
-    at false k m rest = (among_later d e ds (rest m).0, (rest m).1)
+from_filter p d (e ∷ ds) m = grind (arith, cases_Bool (p e), from_filter p d ds)
 
 -- No dart stands there twice.
 abbrev pub AreApart : (darts : List ℕ) → Type 0

@@ -1,13 +1,12 @@
 -- Who goes on at a vertex with four faces, told by two bits: the rider by d, where neither the rider to whom it gives
 -- way arrives nor the one from the opposite side.
-use Rattle.std.proofs.Common.{arith, rules, ◌≡◌, ◌≢◌, ◌⊎◌, ℕ, ◌<◌, true, false, not, ◌&&◌, List, [], ◌∷◌, sym, ap}
-use Rattle.std.proofs.Common.{◌∙◌, refl, inl, inr, Bool, Some, None}
-use Rattle.std.proofs.{lemmas.Bool.cases_Bool, lemmas.Bool.false≢true, lemmas.Bool.ne_eqb}
+use Rattle.std.proofs.Common.{arith, rules, ◌≡◌, ◌≢◌, ◌⊎◌, ℕ, ◌<◌, true, false, not, ◌&&◌, List, [], ◌∷◌}
+use Rattle.std.proofs.Common.{Bool, Some, None}
+use Rattle.std.proofs.lemmas.Bool.{false≢true, ne_eqb, eqb-true, Decides.nat_tests}
 use Rattle.def_mesh.specs.HalfEdges.{HalfEdges, IsQuadManifold}
 use Rattle.def_cut.specs.Motion.{Terrain, end_of, is_among, gives_way, goes_on, State, ridden, start}
 use Rattle.def_cut.specs.{Cuts.IsCross, Cuts.HasCross, Trails.Trail, Trails.IsTracked, Trails.HasSources}
-use Rattle.cut_laws.proofs.Crosses.{one_of_four}
-use Rattle.motion_laws.proofs.Among.{among_here, among_later, among_cases, AreApart}
+use Rattle.motion_laws.proofs.Among.{among_cases, AreApart}
 
 -- The darts that arrive at a vertex with four faces, going round: d gives way to p, p to q, q to r, and r to d.
 pub record AreRound (g : Terrain) (d p q r : ℕ) : Type 0 where
@@ -31,73 +30,13 @@ pub rotated : (mesh : HalfEdges) → IsQuadManifold mesh → (d a b c : ℕ) →
 rotated mesh laws d a b c low x = search rules
 
 module _ (g : Terrain) (d p q r : ℕ) (round : AreRound g d p q r) where
-  first_of_two : (y : ℕ) → d ≢ y → IsOfFour d p q r y → goes_on g (d ∷ y ∷ []) d
-      ≡ (not (is_among p (d ∷ y ∷ [])) && not (is_among q (d ∷ y ∷ [])))
-  first_of_two y ne o = search rules
-
-  second_of_two : (y : ℕ) → d ≢ y → IsOfFour d p q r y → goes_on g (y ∷ d ∷ []) d
-      ≡ (not (is_among p (y ∷ d ∷ [])) && not (is_among q (y ∷ d ∷ [])))
-  second_of_two y ne o = search rules
-
-  -- Of three that are d or r two are the same.
-  two_same : (x y z : ℕ) → (x ≡ d) ⊎ (x ≡ r) → (y ≡ d) ⊎ (y ≡ r) → (z ≡ d) ⊎ (z ≡ r) → (x ≡ y) ⊎ ((x ≡ z) ⊎ (y ≡ z))
-  two_same x y z h1 h2 h3 = search rules
-
-  differ : (x y : ℕ) (ds : List ℕ) → is_among x ds ≡ false → is_among y ds ≡ true → x ≢ y
-  differ x y ds off on e = false≢true (sym off ∙ (ap (λ k. is_among k ds) e ∙ on))
-
-  -- The rider by d goes on where neither p nor q arrives.
+  -- The rider by d goes on where neither p nor q arrives: of three that differ, one is p or q.
   pub two_bits_of : (ds : List ℕ) → AreApart ds → is_among d ds ≡ true → ((x : ℕ) → is_among x ds ≡ true
       → IsOfFour d p q r x) → goes_on g ds d ≡ (not (is_among p ds) && not (is_among q ds))
   two_bits_of [] apart m all = absurd (false≢true m)
-  two_bits_of (x ∷ []) apart m all = elim (among_cases d x [] m) [
-    | inl s ↦ rw (ne_eqb p x (λ k. round.d_p (s ∙ sym k)), ne_eqb q x (λ k. round.d_q (s ∙ sym k))) refl
-    | inr o ↦ absurd (false≢true o)
-  ]
-  two_bits_of (x ∷ y ∷ []) apart m all = elim (among_cases d x (y ∷ []) m) [
-    | inl s ↦ rw (← s) (first_of_two y (λ k. differ x y (y ∷ []) apart.0 (among_here y y [] refl) (sym s ∙ k))
-        (all y (among_later y x (y ∷ []) (among_here y y [] refl))))
-    | inr o ↦ elim (among_cases d y [] o) [
-      | inl s ↦ rw (← s) (second_of_two x (λ k. differ x y (y ∷ []) apart.0 (among_here y y [] refl) (sym k ∙ s))
-          (all x (among_here x x (y ∷ []) refl)))
-      | inr n ↦ absurd (false≢true n)
-    ]
-  ]
-  -- Of three that differ, one is p or q.
-  two_bits_of (x ∷ y ∷ z ∷ more) apart m all = elim (cases_Bool (is_among p (x ∷ y ∷ z ∷ more))) [
-    | inl on ↦ rw on refl
-    | inr no_p ↦ elim (cases_Bool (is_among q (x ∷ y ∷ z ∷ more))) [
-      | inl on ↦ rw (no_p, on) refl
-      | inr no_q ↦
-          let d_or_r : (u : ℕ) → is_among u (x ∷ y ∷ z ∷ more) ≡ true → (u ≡ d) ⊎ (u ≡ r) = λ u n. elim (all u n) [
-            | inl e ↦ inl e
-            | inr (inl e) ↦ absurd (differ p u (x ∷ y ∷ z ∷ more) no_p n (sym e))
-            | inr (inr (inl e)) ↦ absurd (differ q u (x ∷ y ∷ z ∷ more) no_q n (sym e))
-            | inr (inr (inr e)) ↦ inr e
-          ] in
-          let in_y = among_here y y (z ∷ more) refl in
-          let in_z = among_here z z more refl in
-          absurd (elim (two_same x y z (d_or_r x (among_here x x (y ∷ z ∷ more) refl))
-          (d_or_r y (among_later y x (y ∷ z ∷ more) in_y))
-          (d_or_r z (among_later z x (y ∷ z ∷ more) (among_later z y (z ∷ more) in_z)))) [
-            | inl e ↦ differ x y (y ∷ z ∷ more) apart.0 in_y e
-            | inr (inl e) ↦ differ x z (y ∷ z ∷ more) apart.0 (among_later z y (z ∷ more) in_z) e
-            | inr (inr e) ↦ differ y z (z ∷ more) apart.1.0 in_z e
-          ])
-    ]
-  ]
-
-module _ (g : Terrain) (laws : IsQuadManifold g.half) where
-  -- The darts before those of a cross are such a round.
-  pub round_of : (d a b c : ℕ) → d < g.half.count → IsCross g.half (g.half.next d) a b c
-      → AreRound g d (g.half.prev a) (g.half.prev b) (g.half.prev c)
-  round_of d a b c low x = search rules
-
-  -- Each dart that arrives there is one of the four.
-  pub of_round : (d a b c : ℕ) → d < g.half.count → IsCross g.half (g.half.next d) a b c → (e : ℕ) → e < g.half.count
-      → end_of g e ≡ end_of g d → IsOfFour d (g.half.prev a) (g.half.prev b) (g.half.prev c) e
-  of_round d a b c low x e l s =
-      grind (arith, one_of_four laws (g.half.next d) a b c (laws.next_low d low) x (g.half.next e))
+  two_bits_of (x ∷ []) apart m all = search (rules, among_cases, eqb-true, ne_eqb)
+  two_bits_of (x ∷ y ∷ []) apart m all = grind (arith, nat_tests, all x, all y)
+  two_bits_of (x ∷ y ∷ z ∷ more) apart m all = grind (arith, nat_tests, all x, all y, all z)
 
 -- Where riders move, from where they start, and what each state that they reach knows.
 

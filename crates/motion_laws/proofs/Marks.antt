@@ -2,28 +2,22 @@
 use Rattle.std.proofs.lemmas.Grind.{common_steps}
 use Rattle.std.proofs.Common.{rules, ◌≡◌, ◌⊎◌, ℕ, zero, suc, ◌<◌, ◌≤◌, Bool, true, false, eqb, ◌||◌, List, [], ◌∷◌}
 use Rattle.std.proofs.Common.{◌++◌, length, get_or, set, replicate, Option, Some, None, sym, ap, ◌∙◌, refl, inl, inr}
-use Rattle.std.proofs.{Common.arith, lemmas.Bool.false≢true, Math.Bool.or-false, Math.Bool.or_comm}
-use Rattle.std.proofs.{lemmas.List.length-set, lemmas.Option.none-some, lemmas.Option.same_Some}
+use Rattle.std.proofs.{Common.arith, lemmas.Bool.false≢true, Math.Bool.or_comm, lemmas.Bool.cases_lt}
+use Rattle.std.proofs.lemmas.Bool.{cases_eq}
+use Rattle.std.proofs.{lemmas.List.length-set, lemmas.Option.none-some}
 use Rattle.def_cut.specs.Motion.{Terrain, is_among, is_found}
 use Rattle.def_cut.specs.Events.{mark_twin, marked_from, darts_in, note_at}
-use Rattle.motion_laws.proofs.Among.{AreApart, among_cases, among_here, among_later}
+use Rattle.motion_laws.proofs.Among.{AreApart, among_cases, among_here, among_later, cases_Option}
 use Rattle.{def_mesh.specs.HalfEdges.HalfEdges, def_mesh.specs.HalfEdges.IsQuadManifold, def_cut.specs.FullCut.is_on}
-use Rattle.{std.specs.List.list_any, sum_laws.proofs.Tests.same_test, cut_laws.proofs.Pigeon.no_more}
+use Rattle.{std.specs.List.list_any, cut_laws.proofs.Pigeon.no_more}
 
 -- A mark more.
 pub mark_is : (marks : List Bool) (k d : ℕ) → k < length marks → is_on (set marks k true) d ≡ (is_on marks d || eqb d k)
 mark_is marks k d l = search rules
 
--- In no darts none is found.
-pub none_found : (o : Option ℕ) → is_found o [] ≡ false
-none_found None = refl
-none_found (Some t) = refl
-
 -- No marks.
 pub none_on : (n d : ℕ) → is_on (replicate n false) d ≡ false
-none_on zero d = refl
-none_on (suc n) zero = refl
-none_on (suc n) (suc d) = none_on n d
+none_on n d = grind (arith, common_steps, cases_lt d n)
 
 pub no_darts : (n : ℕ) → darts_in (replicate n None) ≡ []
 no_darts zero = refl
@@ -34,22 +28,8 @@ pub cover_more : (m : HalfEdges) → IsQuadManifold m → (marks : List Bool) (x
     → (ds es : List ℕ) → ((e : ℕ) → is_among e es ≡ (is_among e ds || eqb e x)) → (old : Bool) (d : ℕ) → d < m.count
     → is_on marks d ≡ (old || (is_among d ds || is_found (m.twin d) ds))
     → is_on (mark_twin (m.twin x) (set marks x true)) d ≡ (old || (is_among d es || is_found (m.twin d) es))
-cover_more m laws marks x low long ds es more old d l before = search (rules, at, found_more)
-  where
-    one_way : (d e : ℕ) → d < m.count → is_found (m.twin d) (e ∷ []) ≡ true → is_found (m.twin e) (d ∷ []) ≡ true
-    one_way d e ld f = search rules
-
-    turned : is_found (m.twin x) (d ∷ []) ≡ is_found (m.twin d) (x ∷ [])
-    turned = same_test _ _ (one_way x d low) (one_way d x l)
-
-    at : (o : Option ℕ) → m.twin x ≡ o
-        → is_on (mark_twin o (set marks x true)) d ≡ (is_on marks d || (eqb d x || is_found (m.twin d) (x ∷ [])))
-    at None is = search rules
-    at (Some t) is = mark_is _ t d (omega (arith, laws.twin_low x t low is, length-set marks x true)) ∙ (search rules)
-
-    found_more : (o : Option ℕ) → is_found o es ≡ (is_found o ds || is_found o (x ∷ []))
-    found_more None = refl
-    found_more (Some t) = more t ∙ ap (λ b. is_among t ds || b) (sym (or-false _))
+cover_more m h marks x low long ds es is old d l before =
+    grind (arith, cases_Option (m.twin x), cases_Option (m.twin d), h.twin_low x, h.twin_twin, mark_is, length-set, is)
 
 -- The vertices that darts leave are marked.
 pub marked_long : (g : Terrain) (ds : List ℕ) (marks : List Bool) → length (marked_from g ds marks) ≡ length marks
@@ -68,15 +48,13 @@ pub noted_more : (ns : List (Option ℕ)) (r d e : ℕ) → r < length ns → no
     → is_among e (darts_in (set ns r (Some d))) ≡ (is_among e (darts_in ns) || eqb e d)
 noted_more [] r d e l none = absurd (omega arith)
 noted_more (n ∷ ns) zero d e l none = rw none (or_comm (eqb e d) (is_among e (darts_in ns)))
-noted_more (None ∷ ns) (suc r) d e l none = noted_more ns r d e (omega arith) none
-noted_more (Some x ∷ ns) (suc r) d e l none = search (rules, noted_more ns r d e (omega arith) none)
+noted_more (n ∷ ns) (suc r) d e l none = grind (arith, cases_Option n, noted_more ns r d e)
 
 pub noted_longer : (ns : List (Option ℕ)) (r d : ℕ) → r < length ns → note_at ns r ≡ None
     → length (darts_in (set ns r (Some d))) ≡ suc (length (darts_in ns))
 noted_longer [] r d l none = absurd (omega arith)
 noted_longer (n ∷ ns) zero d l none = rw none refl
-noted_longer (None ∷ ns) (suc r) d l none = noted_longer ns r d (omega arith) none
-noted_longer (Some x ∷ ns) (suc r) d l none = ap suc (noted_longer ns r d (omega arith) none)
+noted_longer (n ∷ ns) (suc r) d l none = grind (arith, cases_Option n, noted_longer ns r d)
 
 -- Who has a note.
 pub noted_where : (ns : List (Option ℕ)) (d : ℕ) → is_among d (darts_in ns) ≡ true → (r : ℕ) × (r < length ns)
@@ -89,15 +67,12 @@ noted_where (Some e ∷ ns) d m = elim (among_cases d e (darts_in ns) m) [
 ]
 
 pub noted_among : (ns : List (Option ℕ)) (r d : ℕ) → note_at ns r ≡ Some d → is_among d (darts_in ns) ≡ true
-noted_among (None ∷ ns) (suc r) d e = noted_among ns r d e
-noted_among (Some k ∷ ns) zero d e = among_here d k (darts_in ns) (sym (same_Some k d e))
-noted_among (Some k ∷ ns) (suc r) d e = among_later d k (darts_in ns) (noted_among ns r d e)
-noted_among _ _ d e = absurd (none-some d e)
+noted_among [] r d e = absurd (none-some d e)
+noted_among (n ∷ ns) zero d e = rw e (among_here d d (darts_in ns) refl)
+noted_among (n ∷ ns) (suc r) d e = grind (arith, cases_Option n, noted_among ns r d)
 
 pub noted_short : (ns : List (Option ℕ)) (r d : ℕ) → note_at ns r ≡ Some d → r < length ns
-noted_short [] r d e = absurd (none-some d e)
-noted_short (n ∷ ns) zero d e = omega arith
-noted_short (n ∷ ns) (suc r) d e = omega (arith, noted_short ns r d e)
+noted_short ns r d e = grind (arith, common_steps, cases_lt r (length ns))
 
 -- Numbers that differ and are below n are at most n.
 pub among_at : (xs : List ℕ) (i : ℕ) → i < length xs → is_among (get_or xs i 0) xs ≡ true
@@ -108,10 +83,8 @@ among_at (x ∷ xs) (suc i) l = among_later (get_or xs i 0) x xs (among_at xs i 
 pub places_apart : (xs : List ℕ) → AreApart xs → (i j : ℕ) → i < length xs → j < length xs
     → get_or xs i 0 ≡ get_or xs j 0 → i ≡ j
 places_apart [] a i j li lj e = absurd (omega arith)
-places_apart (x ∷ xs) a zero zero li lj e = refl
-places_apart (x ∷ xs) a zero (suc j) li lj e = search (rules, among_at)
-places_apart (x ∷ xs) a (suc i) zero li lj e = search (rules, among_at)
-places_apart (x ∷ xs) a (suc i) (suc j) li lj e = ap suc (places_apart xs a.1 i j (omega arith) (omega arith) e)
+places_apart (x ∷ xs) a zero j li lj e = grind (arith, among_at xs, cases_eq j 0)
+places_apart (x ∷ xs) a (suc i) j li lj e = grind (arith, among_at xs i, cases_eq j 0, places_apart xs a.1 i)
 
 pub apart_few : (n : ℕ) (xs : List ℕ) → AreApart xs → ((d : ℕ) → is_among d xs ≡ true → d < n) → length xs ≤ n
 apart_few n xs a low = no_more (length xs) n (λ i. get_or xs i 0) (λ k. k) (places_apart xs a)

@@ -1,27 +1,22 @@
 -- The states that the motion reaches from a first state, its end, and that what it traces is a full cut.
-use Rattle.std.proofs.Common.{rules, ◌≡◌, ◌⊎◌, ℕ, zero, suc, ◌+◌, ◌<◌, ◌≤◌, Bool, true, false, not, cond, List, [], ◌∷◌}
-use Rattle.std.proofs.Common.{map, length, Option, Some, None, is_some, sym, subst, ap, ◌∙◌, refl, inl, inr, arith}
+use Rattle.std.proofs.Common.{rules, ◌≡◌, ◌⊎◌, ℕ, zero, suc, ◌+◌, ◌<◌, ◌≤◌, Bool, true, not, cond, List, [], ◌∷◌}
+use Rattle.std.proofs.Common.{map, length, Some, None, is_some, sym, subst, ap, ◌∙◌, refl, inl, inr, arith}
 use Rattle.std.proofs.lemmas.Bool.{false_from_ne_true, false≢true, cases_Bool, cases_eq, or_left, or_right}
 use Rattle.{std.proofs.lemmas.List.length-map, def_math.specs.Counts.count_below}
 use Rattle.sum_laws.proofs.Sums.{count_below_lt, count_below_ones}
-use Rattle.def_cut.specs.Motion.{Terrain, State, end_of, with_next, ridden, is_among, ride, ride_on, step, later}
-use Rattle.def_cut.specs.{Cuts.GoesOn as CutGoesOn, Cuts.IsCut, Trails.Trail, Trails.IsTraced, declared.graph.Stop.Stop}
+use Rattle.def_cut.specs.Motion.{Terrain, State, end_of, ridden, is_among, ride, step, later}
+use Rattle.def_cut.specs.{Cuts.GoesOn as CutGoesOn, Cuts.IsCut, Trails.Trail, Trails.IsTraced}
 use Rattle.def_cut.specs.{declared.moving.Moving.Moving, Traced.finish, Traced.is_cut}
 use Rattle.cut_laws.proofs.{Corners.corner_law, Crosses.one_of_four, Crosses.low_b}
 use Rattle.motion_laws.proofs.Bits.{IsTerrain, IsReachedFrom, IsFirst, IsSoon, IsShut, IsCrossedAt}
-use Rattle.motion_laws.proofs.{Among.among_here, Among.cases_List, Steps.trail_more, Steps.next_is, Steps.step_keeps}
-use Rattle.motion_laws.proofs.Steps.{stands}
+use Rattle.motion_laws.proofs.{Among.among_here, Among.cases_List, Among.cases_Option}
+use Rattle.motion_laws.proofs.Steps.{trail_more, next_is, step_keeps, stands}
 
 -- Where nobody rides, a step changes no rider.
 pub still_riders : (g : Terrain) (stood : ℕ → Bool) (ds : List ℕ) (rs : List Moving) → ridden rs ≡ []
     → map (ride g stood ds) rs ≡ rs
 still_riders g stood ds [] e = refl
-still_riders g stood ds (q ∷ rs) e = at q.stop refl e (still_riders g stood ds rs)
-  where
-    at : (o : Option Stop) → q.stop ≡ o → with_next o q.dart (ridden rs) ≡ []
-        → (ridden rs ≡ [] → map (ride g stood ds) rs ≡ rs) → ride_on g stood ds q o ∷ map (ride g stood ds) rs ≡ q ∷ rs
-    at None is e rest = absurd (let n : suc (length (ridden rs)) ≡ 0 = ap length e in omega arith)
-    at (Some s) is e rest = ap (λ qs. q ∷ qs) (rest e)
+still_riders g stood ds (q ∷ rs) e = grind (arith, cases_Option q.stop, still_riders g stood ds rs)
 
 -- Where nobody runs, the motion stands still.
 pub at_rest : (g : Terrain) (k : ℕ) (s : State) → ridden s.riders ≡ [] → finish g k s ≡ s
@@ -67,48 +62,38 @@ module _ (g : Terrain) (t : IsTerrain g) (begins : ℕ → Bool) (first : State)
       → is_among e (ridden (later g first j).riders) ≡ true → ⊥
   rides_once e i zero less m n = omega arith
   rides_once e i (suc j) less m n =
-      let x = next_is g t begins first (later g first j) (later_reached j) e n in
-      false≢true (sym x.2.fresh ∙ (ap (later g first j).stood (sym x.2.at) ∙ stood_later i j (g.half.from e)
-      (omega arith) ((later_reached i).left e m)))
+      let stays = stood_later i j (g.half.from e) (omega arith) ((later_reached i).left e m) in
+      let (d, rides, x) = next_is g t begins first (later g first j) (later_reached j) e n in
+      cc (x.fresh, x.at, stays)
 
   module _ (n : ℕ) (few : (d : ℕ) → d < g.half.count → g.half.from d < n) where
     -- How many vertices there are where nobody has stood.
     abbrev pub fresh : (s : State) → ℕ
     fresh s = count_below (λ v. cond (s.stood v) 0 1) n
 
-    pub rests_or_falls : (s : State) → IsReachedFrom g begins first s → (ridden (step g s).riders ≡ [])
-        ⊎ (fresh (step g s) < fresh s)
-    rests_or_falls s r = elim (cases_List _) [
-      | inl is ↦ inl is
-      | inr (e, ds, is) ↦
-          let f = next_is g t _ _ s r e (ap (is_among e) is ∙ among_here e e ds refl) in
-          let d = f.0 in
-          let less : cond ((step g s).stood (end_of g f.0)) 0 1 < cond (s.stood (end_of g f.0)) 0 1 =
-          rw (stands g t _ _ s r _ f.1, f.2.fresh) (omega arith) in
-          inr (count_below_lt _ _ n _ (few (g.half.next d) (t.half.next_low d (r.low d f.1))) (search rules) less)
-    ]
-
     -- While somebody rides, each step leaves a rider at a vertex where none had stood.
-    pub runs_out : (k : ℕ) → (ridden (later g first k).riders ≡ []) ⊎ (fresh (later g first k) + k < n)
-    runs_out zero = elim (cases_List _) [
-      | inl is ↦ inl is
-      | inr (d, ds, is) ↦
-          let m : is_among d (ridden first.riders) ≡ true = ap (is_among d) is ∙ among_here d d ds refl in
-          let less : cond (first.stood (g.half.from d)) 0 1 < 1 = rw (begin.reached.left d m) (omega arith) in
-          inr (omega (
-            arith,
-            count_below_ones n,
-            count_below_lt _ _ n _ (few d (begin.reached.low d m)) (λ v l. at_most (first.stood v)) less,
-          ))
-    ]
-      where
-        at_most : (b : Bool) → cond b 0 1 ≤ 1
-        at_most b = grind arith
-    runs_out (suc k) = search (rules, rests_on, rests_or_falls, later_reached, runs_out k)
+    pub runs_out : (k e : ℕ) → is_among e (ridden (later g first k).riders) ≡ true → fresh (later g first k) + k < n
+    runs_out zero e m =
+        let less : cond (first.stood (g.half.from e)) 0 1 < 1 = rw (begin.reached.left e m) (omega arith) in
+        let fewer : fresh first < count_below (λ v. 1) n =
+        count_below_lt _ _ n _ (few e (begin.reached.low e m)) (search rules) less in
+        omega (arith, count_below_ones n)
+    runs_out (suc k) e m =
+        let (d, rides, next) = next_is g t _ _ _ (later_reached k) e m in
+        let less : cond ((later g first (suc k)).stood (end_of g d)) 0 1
+        < cond ((later g first k).stood (end_of g d)) 0 1 =
+        rw (stands g t _ _ _ (later_reached k) d rides, next.fresh) (omega arith) in
+        let low = few (g.half.next d) (t.half.next_low d ((later_reached k).low d rides)) in
+        let fewer : fresh (later g first (suc k)) < fresh (later g first k) =
+        count_below_lt _ _ n _ low (search rules) less in
+        omega (arith, runs_out k d rides)
 
     -- After as many steps as there are vertices nobody runs.
     pub last_rests : ridden (later g first n).riders ≡ []
-    last_rests = elim (runs_out n) [ inl none ↦ none | inr low ↦ absurd (omega (arith, low)) ]
+    last_rests = elim (cases_List _) [
+      | inl none ↦ none
+      | inr (e, ds, is) ↦ absurd (omega (arith, runs_out n e (ap (is_among e) is ∙ among_here e e ds refl)))
+    ]
 
     -- Nobody runs in the end, which is a state that the motion reaches.
     pub ends : (j : ℕ) × (finish g (suc n) first ≡ later g first j) × (ridden (later g first j).riders ≡ [])
@@ -158,24 +143,20 @@ module _ (g : Terrain) (t : IsTerrain g) (begins : ℕ → Bool) (first : State)
               [ inl k ↦ inl (shut_cut next next_low k) | inr e ↦ inr (e.0, e.1, alone_cut _ e.2) ]
           | inr inner ↦ elim (cases_Bool (g.singular (end_of g d))) [
             | inl y ↦ inl (shut_cut _ next_low (begin.singular next next_low y))
-            | inr regular ↦ by_cross (r.through next next_low (stood_there inner) inner regular)
+            | inr regular ↦ by_cross (r.through next next_low (search rules) inner regular)
           ]
         ]
       where
-        stood_there : g.boundary (end_of g d) ≡ false → s.stood (end_of g d) ≡ true
-        stood_there inner = search rules
-
         by_cross : IsCrossedAt g s (end_of g d) → CutGoesOn g.half cut d
         by_cross c =
-            let x = c.x in
-            let b = c.b in
-            let on_x = soon_cut x c.soon in
-            let on_b = soon_cut b c.facing in
-            elim (one_of_four t.half x _ b _ c.low c.cross _ (record { low = t.half.next_low d low; at = sym c.at })) [
-              | inl e ↦ inl (ap cut e ∙ on_x)
-              | inr (inl e) ↦ inr (g.half.prev x, search rules, ap cut (t.half.next_prev x) ∙ on_x)
-              | inr (inr (inl e)) ↦ inl (ap cut e ∙ on_b)
-              | inr (inr (inr e)) ↦ inr (g.half.prev b, search (rules, low_b), ap cut (t.half.next_prev b) ∙ on_b)
+            let on = soon_cut c.x c.soon in
+            let there = soon_cut c.b c.facing in
+            elim (one_of_four t.half c.x _ c.b _ c.low c.cross _
+            (record { low = t.half.next_low d low; at = sym c.at })) [
+              | inl e ↦ inl (ap cut e ∙ on)
+              | inr (inl e) ↦ inr (g.half.prev c.x, search rules, ap cut (t.half.next_prev c.x) ∙ on)
+              | inr (inr (inl e)) ↦ inl (ap cut e ∙ there)
+              | inr (inr (inr e)) ↦ inr (g.half.prev c.b, search (rules, low_b), ap cut (t.half.next_prev c.b) ∙ there)
             ]
 
     traced : IsTraced g.half begins cut
@@ -198,13 +179,7 @@ module _ (g : Terrain) (t : IsTerrain g) (begins : ℕ → Bool) (first : State)
       boundary = λ d low w. alone_cut d w;
       gaps = goes;
       -- A vertex without cut edges has four faces.
-      crossed = λ d low u. t.crossed d low (false_from_ne_true _ (λ y.
-          let e = t.rimmed d low y in
-          let off = u e.0 e.1 e.2 in
-          elim e.3 [
-            | inl w ↦ false≢true (sym off.0 ∙ alone_cut e.0 w)
-            | inr w ↦ false≢true (sym off.1 ∙ alone_cut (g.half.prev e.0) w)
-          ]))
-          (false_from_ne_true _ (λ y. false≢true (sym (u d low refl).0 ∙ shut_cut d low (begin.singular d low y))));
+      crossed = λ d low u. t.crossed d low (false_from_ne_true _ (λ y. grind (arith, t.rimmed d low y, u, alone_cut)))
+          (false_from_ne_true _ (λ y. grind (arith, begin.singular d low y, u d, shut_cut d low)));
       corner = corner_law g.half begins cut t.half begin.found traced;
     }

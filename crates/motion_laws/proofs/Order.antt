@@ -1,23 +1,23 @@
 -- Events keep what event states show, so every order of events has one end.
 use Rattle.std.proofs.lemmas.Grind.{common_steps}
-use Rattle.std.proofs.Common.{rules, ◌≡◌, ℕ, zero, suc, ◌+◌, ◌-◌, ◌<◌, ◌≤◌, Bool, true, false, cond, eqb, ◌&&◌, ◌||◌}
-use Rattle.std.proofs.Common.{List, [], ◌∷◌, ◌++◌, length, set, replicate, Option, Some, None, sym, ap, ◌∙◌, refl, inl}
+use Rattle.std.proofs.Common.{rules, ◌≡◌, ℕ, zero, suc, ◌+◌, ◌-◌, ◌<◌, ◌≤◌, Bool, true, false, cond, ◌&&◌, ◌||◌}
+use Rattle.std.proofs.Common.{List, [], ◌∷◌, ◌++◌, length, set, replicate, Some, None, sym, ap, ◌∙◌, refl, inl}
 use Rattle.std.proofs.{Common.inr, Common.arith, lemmas.List.length-append, Math.Bool.or-false}
-use Rattle.std.proofs.lemmas.Bool.{eq-eqb, eqb-true, false≢true, cases_Bool, cases_eq, cases_lt, or_right, and_parts}
+use Rattle.std.proofs.lemmas.Bool.{eq-eqb, eqb-true, false≢true, cases_Bool, cases_eq, cases_lt}
 use Rattle.std.proofs.lemmas.Bool.{and_from, not_from_false, false_from_ne_true}
 use Rattle.std.proofs.lemmas.List.{get_or-set_same, get_or-set_other, length-set, length-replicate, length-map}
-use Rattle.def_cut.specs.Motion.{Terrain, State, end_of, with_next, ridden, is_among, is_met, arrives_at, ride, begun}
+use Rattle.def_cut.specs.Motion.{Terrain, State, end_of, ridden, is_among, arrives_at, begun}
 use Rattle.def_cut.specs.Motion.{step, start, after_steps}
-use Rattle.def_cut.specs.{FullCut.is_on, declared.graph.Stop.Stop, declared.moving.Moving.Moving, Traced.end_state}
-use Rattle.def_cut.specs.Events.{EventState, waiting, darts_in, rider_at, note_at, may_ride, mark_twin, after_ride_of}
+use Rattle.def_cut.specs.{FullCut.is_on, declared.moving.Moving.Moving, Traced.end_state}
+use Rattle.def_cut.specs.Events.{EventState, waiting, darts_in, rider_at, note_at, may_ride, after_ride_of}
 use Rattle.def_cut.specs.Events.{leads_to, may_settle, decided_at, are_ends_settled, closed, after_settling}
 use Rattle.def_cut.specs.Events.{first_state, Event, May, Leads, rides_in, NobodyRuns}
-use Rattle.motion_laws.proofs.Marks.{none_on, none_found, no_darts, cover_more, from_marks, marked_long, noted_more}
+use Rattle.motion_laws.proofs.Marks.{none_on, no_darts, cover_more, from_marks, marked_long, noted_more}
 use Rattle.motion_laws.proofs.Marks.{noted_longer, apart_few, among_append, apart_append}
 use Rattle.motion_laws.proofs.Shown.{runs_ridden, IsShown, AreShown, all_noted, darts_of, noted_rides, notes_of}
 use Rattle.motion_laws.proofs.Shown.{ride_shown, somebody, as_was, still_runs, closed_is, none_shown, told_shown}
 use Rattle.motion_laws.proofs.Onward.{ends, later_reached, rides_once, runs_out, still_riders}
-use Rattle.motion_laws.proofs.Among.{any_at, any_where, all_at, not_all, AreApart}
+use Rattle.motion_laws.proofs.Among.{any_at, any_where, all_at, not_all, AreApart, cases_Option}
 use Rattle.motion_laws.proofs.Bits.{IsTerrain, IsStarted, IsReached}
 use Rattle.{std.specs.List.list_any, def_cut.specs.Events.Event.Ride, def_cut.specs.Events.Event.Settle}
 use Rattle.motion_laws.proofs.Steps.{first}
@@ -25,11 +25,8 @@ use Rattle.motion_laws.proofs.Steps.{first}
 -- Where nobody runs, nobody rides.
 nobody_rides : (rs : List Moving) → ((r : ℕ) → r < length rs → (rider_at rs r).stop ≡ None → ⊥) → ridden rs ≡ []
 nobody_rides [] none = refl
-nobody_rides (q ∷ rs) none = at q.stop (none 0 (omega arith)) (nobody_rides rs (λ r l. none (suc r) (omega arith)))
-  where
-    at : (o : Option Stop) → (o ≡ None → ⊥) → ridden rs ≡ [] → with_next o q.dart (ridden rs) ≡ []
-    at None f rest = absurd (f refl)
-    at (Some s) f rest = rest
+nobody_rides (q ∷ rs) none =
+    grind (arith, cases_Option q.stop, none 0, nobody_rides rs (λ r l. none (suc r) (omega arith)))
 
 -- All darts ridden before instant k.
 abbrev pub history : (g : Terrain) (starts : List ℕ) (k : ℕ) → List ℕ
@@ -53,11 +50,6 @@ pub record IsWithin (g : Terrain) (starts : List ℕ) (n : ℕ) (x : EventState)
 -- All states of the motion where nobody runs are alike.
 abbrev pub Alike : (s u : State) → Type 0
 Alike s u = (s.riders ≡ u.riders) × ((d : ℕ) → s.covered d ≡ u.covered d)
-
--- Where no dart is noted, no more is covered.
-none_more : (g : Terrain) (s : State) (ds : List ℕ) (d : ℕ) → ds ≡ []
-    → (s.covered d || (is_among d ds || is_met g ds d)) ≡ s.covered d
-none_more g s ds d none = rw (none, none_found (g.half.twin d)) (or-false (s.covered d))
 
 module _ {g : Terrain} {starts : List ℕ} {n : ℕ} (w : IsCourse g starts n) where
   open w use {terrain, begin, few}
@@ -88,17 +80,11 @@ module _ {g : Terrain} {starts : List ℕ} {n : ℕ} (w : IsCourse g starts n) w
       search (rules, still_riders, rest_more k j none)
 
   alike : (i j : ℕ) → ridden (after i).riders ≡ [] → ridden (after j).riders ≡ [] → Alike (after i) (after j)
-  alike i j a b = elim (cases_lt i j) [
-    | inl l ↦
-        let e : (j - i) + i ≡ j = omega arith in
-        search (rules, rest_more)
-    | inr l ↦ grind (arith, rest_more j (i - j) b)
-  ]
+  alike i j a b = grind (arith, cases_lt i j, rest_more i (j - i) a, rest_more j (i - j) b)
 
   -- While somebody rides, fewer steps were made than there are vertices.
   pub steps_few : (k e : ℕ) → is_among e (ridden (after_steps g starts k).riders) ≡ true → k < n
-  steps_few k e m = elim (runs_out g terrain _ _ (first g terrain _ begin) n few k)
-      [ inl none ↦ absurd (false≢true (sym (ap (is_among e) none) ∙ m)) | inr low ↦ omega (arith, low) ]
+  steps_few k e m = let low = runs_out g terrain _ _ (first g terrain _ begin) n few k e m in omega (arith, low)
 
   -- Wherever nobody runs, the state is like the last.
   like_last : (i : ℕ) → ridden (after i).riders ≡ [] → Alike (after i) (end_state g n starts)
@@ -180,10 +166,7 @@ module _ {g : Terrain} {starts : List ℕ} {n : ℕ} {x : EventState} {c : ℕ} 
 
     pub ends_then : (u : ℕ) → is_on (set x.settled v true) u ≡ true
         → (d : ℕ) × (is_among d (darts_in x.noted) ≡ true) × (end_of g d ≡ u)
-    ends_then u on = elim (cases_eq u v) [
-      | inl e ↦ (some_end.0, some_end.1, some_end.2 ∙ sym e)
-      | inr ne ↦ shown.ends u (sym (get_or-set_other x.settled v u true false ne) ∙ on)
-    ]
+    ends_then u on = search (rules, cases_eq u v, some_end, shown.ends u, get_or-set_other x.settled v u true false)
 
     pub v_low : v < n
     v_low =
@@ -273,12 +256,8 @@ module _ {g : Terrain} {starts : List ℕ} {n : ℕ} {x : EventState} {c : ℕ} 
   possible r low runs = elim (somebody x.riders _) [
     | inr q ↦ (Ride q.0, (q.1, q.2))
     | inl done ↦ elim shown.rest [
-      | inl none ↦ absurd (false≢true (sym (ap (is_among (rider_at x.riders r).dart)
-          (ap ridden (as_was riders none.0) ∙ (sym (all_ridden done) ∙ none.0))) ∙ runs_ridden x.riders r low runs))
-      | inr f ↦ (
-        Settle (end_of g f.0),
-        and_from _ _ (eq-eqb _ _ done) (and_from _ _ (any_at _ f.0 _ f.1 (eq-eqb _ _ refl)) (not_from_false _ f.2)),
-      )
+      | inl none ↦ absurd (grind (arith, as_was riders none.0, all_ridden done, runs_ridden x.riders r low runs))
+      | inr f ↦ (Settle (end_of g f.0), search (rules, and_from, eq-eqb, any_at, not_from_false))
     ]
   ]
 
@@ -289,7 +268,7 @@ module _ {g : Terrain} {starts : List ℕ} {n : ℕ} {x : EventState} {c : ℕ} 
     | inl e ↦
         let same = as_was riders e.0 in
         let r = like_last course instant (sym (ap ridden same) ∙ nobody_rides x.riders over) in
-        (same ∙ r.0, λ d l. shown.covered d l ∙ (none_more g since (darts_in x.noted) d e.0 ∙ r.1 d))
+        (same ∙ r.0, λ d l. grind (arith, shown.covered d l, cases_Option (g.half.twin d), r.1 d, e.0))
     | inr f ↦ let q = still_runs riders f.0 f.1 f.2 in absurd (over q.0 q.1 q.2)
   ]
 

@@ -2,12 +2,12 @@
 use Rattle.std.proofs.lemmas.Grind.{common_steps}
 use Rattle.std.proofs.Common.{rules, ◌≡◌, ◌⊎◌, ℕ, zero, suc, ◌<◌, Bool, true, List, [], ◌∷◌, map, length, Option, Some}
 use Rattle.std.proofs.Common.{None, sym, ap, ◌∙◌, refl, inl, inr, arith, ◌≢◌, false, cond, ◌&&◌, ◌||◌, set, replicate}
-use Rattle.std.proofs.lemmas.Bool.{false≢true, false_from_ne_true, ne_eqb, eq-eqb, cases_Bool, cases_eq}
+use Rattle.std.proofs.lemmas.Bool.{false≢true, false_from_ne_true, ne_eqb, eq-eqb, cases_Bool, cases_lt}
 use Rattle.std.proofs.lemmas.List.{ext_get_or, get_or-map, get_or-set_other, length-map, length-set, length-replicate}
-use Rattle.std.{proofs.lemmas.Option.none-some, specs.List.list_any}
-use Rattle.def_cut.specs.Motion.{Terrain, straight, with_next, ridden, is_among, stop_of, or_else, ride_on, ride, State}
+use Rattle.std.{specs.List.list_any}
+use Rattle.def_cut.specs.Motion.{Terrain, straight, with_next, ridden, is_among, stop_of, or_else, ride, State}
 use Rattle.def_cut.specs.Motion.{end_of, is_met, arrives_at, begun, after_ride}
-use Rattle.def_cut.specs.Events.{rider_at, EventState, is_waiting, waiting, with_note, darts_in, note_at}
+use Rattle.def_cut.specs.Events.{rider_at, EventState, is_waiting, waiting, darts_in, note_at}
 use Rattle.def_cut.specs.Events.{ridden_once_more, told_at, all_told}
 use Rattle.def_cut.specs.{declared.graph.Stop.Stop, declared.moving.Moving.Moving, FullCut.is_on}
 use Rattle.motion_laws.proofs.Among.{among_here, among_later, among_cases, AreApart, cases_Option}
@@ -16,8 +16,7 @@ use Rattle.motion_laws.proofs.Marks.{noted_where, noted_among}
 -- Who rides next, among those of a rider and later ones.
 pub with_later : (o : Option Stop) (x d : ℕ) (later : List ℕ) → is_among d later ≡ true
     → is_among d (with_next o x later) ≡ true
-with_later None x d later m = among_later d x later m
-with_later (Some s) x d later m = m
+with_later o x d later m = grind (arith, cases_Option o, among_later)
 
 pub with_cases : (o : Option Stop) (x d : ℕ) (later : List ℕ) → is_among d (with_next o x later) ≡ true
     → ((o ≡ None) × (d ≡ x)) ⊎ (is_among d later ≡ true)
@@ -36,6 +35,12 @@ pub apart_later : (o : Option Stop) (d : ℕ) (later : List ℕ) → AreApart (w
 apart_later None d later a = a.1
 apart_later (Some s) d later a = a
 
+-- A rider that runs may come in front, where its dart is another.
+apart_with : (o : Option Stop) (d : ℕ) (later : List ℕ) → (o ≡ None → is_among d later ≡ false) → AreApart later
+    → AreApart (with_next o d later)
+apart_with None d later fresh a = (fresh refl, a)
+apart_with (Some s) d later fresh a = a
+
 module _ (g : Terrain) (stood : ℕ → Bool) (ds : List ℕ) where
   -- The dart after d for a rider that goes on.
   abbrev pub next_dart : (d : ℕ) → ℕ
@@ -45,18 +50,18 @@ module _ (g : Terrain) (stood : ℕ → Bool) (ds : List ℕ) where
   abbrev riding : (rs : List Moving) → List ℕ
   riding rs = ridden (map (ride g stood ds) rs)
 
-  from_rider : (r : Moving) (o q : Option Stop) (later : List ℕ) (e : ℕ) → r.stop ≡ o → stop_of g stood ds r.dart ≡ q
-      → is_among e (with_next (ride_on g stood ds r o).stop (ride_on g stood ds r o).dart later) ≡ true
-      → ((o ≡ None) × (stop_of g stood ds r.dart ≡ None) × (e ≡ next_dart r.dart)) ⊎ (is_among e later ≡ true)
-  from_rider r o q h1 h2 h3 = search rules
+  -- A rider that runs after the step ran before it, and goes on.
+  from_rider : (r : Moving) (e : ℕ) → ((ride g stood ds r).stop ≡ None) × (e ≡ (ride g stood ds r).dart)
+      → (r.stop ≡ None) × (stop_of g stood ds r.dart ≡ None) × (e ≡ next_dart r.dart)
+  from_rider r e f = grind (arith, cases_Option r.stop, cases_Option (stop_of g stood ds r.dart))
 
   -- What is ridden next comes from a rider that goes on.
   pub next_from : (rs : List Moving) (e : ℕ) → is_among e (riding rs) ≡ true
       → (d : ℕ) × (is_among d (ridden rs) ≡ true) × (stop_of g stood ds d ≡ None) × (e ≡ next_dart d)
   next_from [] e m = absurd (false≢true m)
-  next_from (r ∷ rs) e m = elim (from_rider r r.stop (stop_of g stood ds r.dart) (riding rs) e refl refl m) [
-    | inl f ↦ (r.dart, rw f.0 (among_here r.dart r.dart (ridden rs) refl), f.1, f.2)
-    | inr k ↦ let n = (next_from rs e) k in (n.0, with_later r.stop r.dart n.0 (ridden rs) n.1, n.2, n.3)
+  next_from (r ∷ rs) e m = elim (with_cases (ride g stood ds r).stop _ e (riding rs) m) [
+    | inl f ↦ let h = from_rider r e f in (r.dart, rw h.0 (among_here r.dart r.dart (ridden rs) refl), h.1, h.2)
+    | inr k ↦ let n = next_from rs e k in (n.0, with_later r.stop r.dart n.0 (ridden rs) n.1, n.2, n.3)
   ]
 
   -- And each rider that goes on rides its next dart.
@@ -66,24 +71,15 @@ module _ (g : Terrain) (stood : ℕ → Bool) (ds : List ℕ) where
   next_to (r ∷ rs) d m on = let rest = next_to rs d in search (rules, with_later)
 
   -- Riders that go on ride different darts, where the next darts of different darts differ.
-  abbrev pub NextDiffer : (rs : List Moving) → Type 0
-  NextDiffer rs = (d e : ℕ) → is_among d (ridden rs) ≡ true → is_among e (ridden rs) ≡ true → stop_of g stood ds d
-      ≡ None → stop_of g stood ds e ≡ None → next_dart d ≡ next_dart e → d ≡ e
-
-  pub next_apart : (rs : List Moving) → AreApart (ridden rs) → NextDiffer rs → AreApart (riding rs)
+  pub next_apart : (rs : List Moving) → AreApart (ridden rs) → ((d e : ℕ) → is_among d (ridden rs) ≡ true
+      → is_among e (ridden rs) ≡ true → stop_of g stood ds d ≡ None → stop_of g stood ds e ≡ None
+      → next_dart d ≡ next_dart e → d ≡ e) → AreApart (riding rs)
   next_apart [] apart differ = tt
-  next_apart (r ∷ rs) apart differ = at_rider _ _ refl refl apart (next_apart rs
-      (apart_later _ _ _ apart) (λ d e m n. differ d e (with_later _ _ d _ m) (with_later _ _ e (ridden rs) n)))
-    where
-      at_rider : (o q : Option Stop) → r.stop ≡ o → stop_of g stood ds r.dart ≡ q
-          → AreApart (with_next o r.dart (ridden rs)) → AreApart (riding rs)
-          → AreApart (with_next (ride_on g stood ds r o).stop (ride_on g stood ds r o).dart (riding rs))
-      at_rider (Some s) q is at a rest = rw is rest
-      at_rider None (Some s) is at a rest = rw at rest
-      at_rider None None is at a rest = rw at (
-        false_from_ne_true _ (λ m. grind (arith, common_steps, next_from rs (next_dart r.dart) m, differ r.dart)),
-        rest,
-      )
+  next_apart (r ∷ rs) apart differ =
+      let rest = next_apart rs (apart_later _ _ _ apart)
+      (λ d e m n. differ d e (with_later _ _ d _ m) (with_later _ _ e (ridden rs) n)) in
+      apart_with _ _ _ (λ runs. false_from_ne_true _ (λ m.
+      let h = from_rider r _ (runs, refl) in grind (arith, common_steps, next_from rs _ m, differ r.dart))) rest
 
 -- What an event state shows of the motion: it stands within the instant that begins with one state of the motion.
 
@@ -127,8 +123,7 @@ pub record IsShown (g : Terrain) (n : ℕ) (s : State) (x : EventState) : Type 0
 
 -- Who waits runs and has no note.
 pub waits_runs : (o : Option Stop) (n : Option ℕ) → is_waiting o n ≡ true → (o ≡ None) × (n ≡ None)
-waits_runs None None w = (refl, refl)
-waits_runs _ _ w = absurd (false≢true w)
+waits_runs o n w = grind (arith, cases_Option o, cases_Option n)
 
 -- Who waits is counted; where somebody waits, it has a number.
 waits_counted : (rs : List Moving) (ns : List (Option ℕ)) (r : ℕ) → r < length rs → r < length ns
@@ -150,14 +145,9 @@ somebody (r ∷ rs) (n ∷ ns) = elim (cases_Bool (is_waiting r.stop n)) [
 pub darts_of : (bs : List Moving) (ns : List (Option ℕ)) → length ns ≡ length bs → AreNoted bs ns → AllNoted bs ns
     → darts_in ns ≡ ridden bs
 darts_of [] [] l noted all = refl
-darts_of (b ∷ bs) (n ∷ ns) l noted all = at n b.stop (all 0 (omega arith)) (λ d e. (noted 0 d e).0)
-    (darts_of bs ns (omega arith) (λ r. noted (suc r)) (λ r h. all (suc r) (omega arith)))
-  where
-    at : (n : Option ℕ) (o : Option Stop) → (o ≡ None → n ≡ Some b.dart) → ((d : ℕ) → n ≡ Some d → o ≡ None)
-        → darts_in ns ≡ ridden bs → with_note n (darts_in ns) ≡ with_next o b.dart (ridden bs)
-    at n None f i rest = let e : n ≡ Some b.dart = f refl in rw e (ap (λ xs. b.dart ∷ xs) rest)
-    at None (Some s) f i rest = rest
-    at (Some d) (Some s) f i rest = absurd (none-some s (sym (i d refl)))
+darts_of (b ∷ bs) (n ∷ ns) l noted all =
+    let rest = darts_of bs ns (omega arith) (λ r. noted (suc r)) (λ r h. all (suc r) (omega arith)) in
+    grind (arith, cases_Option n, cases_Option b.stop, all 0, noted 0)
 darts_of _ _ l noted all = absurd (omega arith)
 
 -- Noted darts are ridden, each once.
@@ -168,18 +158,13 @@ notes_ridden bs ns d same noted m = search (rules, noted_where, runs_ridden)
 pub notes_of : (bs : List Moving) (ns : List (Option ℕ)) → length ns ≡ length bs → AreNoted bs ns → AreApart (ridden bs)
     → AreApart (darts_in ns)
 notes_of [] [] l noted p = tt
-notes_of (b ∷ bs) (n ∷ ns) l noted p = at n refl
-    (notes_of bs ns (omega arith) (λ r. noted (suc r)) (apart_later b.stop b.dart (ridden bs) p))
-  where
-    at : (o : Option ℕ) → n ≡ o → AreApart (darts_in ns) → AreApart (with_note o (darts_in ns))
-    at None is rest = rest
-    at (Some d) is rest =
-        let (runs, same) = noted 0 d is in
-        let q : AreApart (b.dart ∷ ridden bs) = rw runs at p in (
-          false_from_ne_true _ (λ m. false≢true (sym q.0 ∙ (ap (λ k. is_among k (ridden bs)) (sym same)
-              ∙ notes_ridden bs ns d (omega arith) (λ r. noted (suc r)) m))),
-          rest,
-        )
+notes_of (b ∷ bs) (None ∷ ns) l noted p =
+    notes_of bs ns (omega arith) (λ r. noted (suc r)) (apart_later b.stop b.dart (ridden bs) p)
+notes_of (b ∷ bs) (Some d ∷ ns) l noted p =
+    let (runs, same) = noted 0 d refl in
+    let q : AreApart (b.dart ∷ ridden bs) = rw runs at p in
+    let fresh = λ (m : is_among d (darts_in ns) ≡ true). notes_ridden bs ns d (omega arith) (λ r. noted (suc r)) m in
+    (grind (arith, fresh, q.0), notes_of bs ns (omega arith) (λ r. noted (suc r)) q.1)
 notes_of _ _ l noted p = absurd (omega arith)
 
 -- All riders told, rider by rider.
@@ -206,12 +191,7 @@ module _ {g : Terrain} {stood : ℕ → Bool} {ds : List ℕ} {V : ℕ → Bool}
 
   -- Where nobody waits, each that ran has its note, so the noted darts are those ridden.
   pub all_noted : waiting rs ns ≡ 0 → AllNoted bs ns
-  all_noted w r l runs = elim (cases_Option (note_at ns r)) [
-    | inr (d, is) ↦ is ∙ ap Some (a.noted r d is).1
-    | inl is ↦
-        let waits : is_waiting (rider_at rs r).stop (note_at ns r) ≡ true = rw (bare r is, is, runs) refl in
-        search (rules, waits_counted)
-  ]
+  all_noted w r l runs = grind (arith, cases_Option (note_at ns r), bare r, a.noted r, waits_counted rs ns r)
 
   pub noted_rides : (d : ℕ) → is_among d (darts_in ns) ≡ true → is_among d (ridden bs) ≡ true
   noted_rides d m = notes_ridden bs ns d a.notes_long a.noted m
@@ -243,12 +223,8 @@ module _ {g : Terrain} {stood : ℕ → Bool} {ds : List ℕ} {V : ℕ → Bool}
   pub closed_is : AllNoted bs ns → ((d : ℕ) → is_among d (darts_in ns) ≡ true → V (end_of g d) ≡ true)
       → rs ≡ map (ride g stood ds) bs
   closed_is all on = ext_get_or (begun 0) rs (map (ride g stood ds) bs)
-      (a.riders_long ∙ sym (length-map bs (ride g stood ds))) (search (rules, at, get_or-map))
-    where
-      at : (r : ℕ) → r < length bs → (o : Option Stop) → (rider_at bs r).stop ≡ o
-          → shown_by g stood ds V (rider_at bs r) (note_at ns r) ≡ ride_on g stood ds (rider_at bs r) o
-      at r l None is = search (rules, noted_among)
-      at r l (Some s) is = search rules
+      (a.riders_long ∙ sym (length-map bs (ride g stood ds)))
+      (λ r l. search (rules, get_or-map, cases_Option (rider_at bs r).stop, noted_among, cases_Option (note_at ns r)))
 
   -- A settling of v tells the riders that come there, by where somebody had stood when the instant began.
   pub told_shown : (W : ℕ → Bool) (v : ℕ) (now : ℕ → Bool) → ((u : ℕ) → u ≢ v → W u ≡ V u) → W v ≡ true → V v ≡ false
@@ -258,9 +234,6 @@ module _ {g : Terrain} {stood : ℕ → Bool} {ds : List ℕ} {V : ℕ → Bool}
 -- A new instant.
 pub none_shown : (g : Terrain) (stood : ℕ → Bool) (ds : List ℕ) (V : ℕ → Bool) (bs : List Moving) (k : ℕ)
     → length bs ≡ k → AreShown g stood ds V bs bs (replicate k None)
-none_shown g stood ds V bs k e = search (rules, length-replicate, none)
-  where
-    none : (k r : ℕ) → note_at (replicate k None) r ≡ None
-    none zero r = refl
-    none (suc k) zero = refl
-    none (suc k) (suc r) = none k r
+none_shown g stood ds V bs k e =
+    let none : (r : ℕ) → note_at (replicate k None) r ≡ None = λ r. grind (arith, common_steps, cases_lt r k) in
+    search (rules, length-replicate, none)
