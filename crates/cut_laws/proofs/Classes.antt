@@ -1,11 +1,11 @@
 -- Classes of faces that are joined over edges that are not cut: each is one grid, and has one patch.
 use Rattle.std.proofs.Common.{rules, ◌≡◌, ℕ, zero, suc, ◌-◌, ◌<◌, ◌≤◌, true, false, Some, sym, ◌∙◌, ap, refl, inl, inr}
 use Rattle.std.proofs.Common.{arith, List, [], ◌∷◌, length, get_or}
-use Rattle.std.proofs.{lemmas.Bool.cases_lt, lemmas.Option.same_Some}
+use Rattle.std.proofs.{lemmas.Bool.cases_lt}
 use Rattle.def_mesh.specs.HalfEdges.{HalfEdges, IsQuadManifold}
 use Rattle.def_cut.specs.{Cuts.Cut, Cuts.Links, Cuts.IsCorner, Cuts.IsCut, Grids.Cells, Grids.IsGrid, Grids.IsPatch}
 use Rattle.def_cut.specs.{Grids.least_of, Steps.spin}
-use Rattle.cut_laws.proofs.Folds.{prev_three, prev_twice, spin_next, west_open, south, south_open, quarter, AreOne}
+use Rattle.cut_laws.proofs.Folds.{prev_three, spin_next, west_open, south, south_open, quarter, AreOne}
 use Rattle.cut_laws.proofs.Folds.{quarter_grid, one_grid}
 
 -- x is the k-th side of a cell of a grid, where k may be any number.
@@ -63,14 +63,12 @@ HasOther mesh w h cell k x = (t : ℕ) × (mesh.twin x ≡ Some t) × At mesh w 
 module _ {mesh : HalfEdges} (laws : IsQuadManifold mesh) {cut : Cut} (full : IsCut mesh cut) where
   pub links_back : (d e n : ℕ) → d < mesh.count → Links mesh cut d e n → AreLinked mesh cut e d
   links_back d e zero l a = (0, sym a)
-  links_back d e (suc n) l a =
-      let c = a.0 in
-      let lc = links_low laws _ d c n l a.1 in
-      let back = links_back d c n l a.1 in
-      links_join laws _ e c d (elim a.2 [
-        | inl s ↦ rw (ap mesh.prev s ∙ laws.prev_next a.0) at (step_prev laws cut e e (0, refl))
-        | inr o ↦ step_over laws _ e e _ (0, refl) (full.alike a.0 e lc o.1 ∙ o.0) (laws.twin_twin a.0 e lc o.1)
-      ]) back
+  links_back d e (suc n) l (c, a, s) =
+      let lc = links_low laws _ d c n l a in
+      links_join laws _ e c d (elim s [
+        | inl s ↦ rw (ap mesh.prev s ∙ laws.prev_next c) at (step_prev laws cut e e (0, refl))
+        | inr o ↦ step_over laws _ e e _ (0, refl) (full.alike c e lc o.1 ∙ o.0) (laws.twin_twin c e lc o.1)
+      ]) (links_back d c n l a)
 
   pub linked_back : (d e : ℕ) → d < mesh.count → AreLinked mesh cut d e → AreLinked mesh cut e d
   linked_back d e l a = links_back d e a.0 l a.1
@@ -115,11 +113,9 @@ module _ {mesh : HalfEdges} (laws : IsQuadManifold mesh) {cut : Cut} (full : IsC
 
   module _ {w h : ℕ} {cell : Cells} (grid : IsGrid mesh cut w h cell) where
     pub in_low : (x : ℕ) → In mesh w h cell x → x < mesh.count
-    in_low x i = rw i.1.is (spun i.0)
-      where
-        spun : (k : ℕ) → spin mesh k (cell i.1.a i.1.b) < mesh.count
-        spun zero = grid.low i.1.a i.1.b i.1.a_low i.1.b_low
-        spun (suc k) = laws.next_low _ (spun k)
+    in_low x i =
+        let l = step_spin laws cut _ _ i.0 (0, refl) in
+        rw i.1.is (links_low laws cut _ _ l.0 (grid.low i.1.a i.1.b i.1.a_low i.1.b_low) l.1)
 
     -- A class that meets the grid stays in it.
     pub closed : (d e n : ℕ) → Links mesh cut d e n → In mesh w h cell d → In mesh w h cell e
@@ -153,28 +149,25 @@ module _ {mesh : HalfEdges} (laws : IsQuadManifold mesh) {cut : Cut} (full : IsC
     pub least_in : {m : ℕ} (x : ℕ) → AtMost mesh w h cell m → In mesh w h cell x → IsCorner mesh cut x → m ≤ x
     least_in x least i corner = least_corner i.0 grid least i.1.a i.1.b i.1.a_low i.1.b_low i.1.is corner.1 corner.2
 
-    -- The four are corners of the class.
-    pub at_most : (m : ℕ) → ((x : ℕ) → AreLinked mesh cut (cell 0 0) x → IsCorner mesh cut x → m ≤ x)
-        → AtMost mesh w h cell m
-    at_most m least = record {
-      first = least (cell 0 0) (0, refl) (first_corner grid);
-      east = λ i e. least (mesh.next (cell i 0)) (step_next laws cut _ _ (linked_cell i 0 (omega arith) grid.tall)) (
-        laws.next_low _ (grid.low i 0 (omega arith) grid.tall),
-        grid.east_shut i 0 e grid.tall,
-        ap cut (laws.prev_next _) ∙ grid.south_shut i (omega arith),
-      );
-      far = λ i j e z. let l : cell i j < mesh.count = grid.low i j (omega arith) (omega arith) in
-          least (mesh.next (mesh.next (cell i j))) (step_next laws cut _ _ (search (rules, step_next, linked_cell))) (
-            laws.next_low _ (laws.next_low _ l),
-            grid.north_shut i j (omega arith) z,
-            ap cut (laws.prev_next _) ∙ grid.east_shut i j e (omega arith),
-          );
-      north = λ j z. least (mesh.prev (cell 0 j)) (step_prev laws cut _ _ (linked_cell 0 j grid.wide (omega arith))) (
-        laws.prev_low _ (grid.low 0 j grid.wide (omega arith)),
-        grid.west_shut j (omega arith),
-        ap cut (prev_twice laws _) ∙ grid.north_shut 0 j grid.wide z,
-      );
-    }
+    -- The corner of the grid is linked to that of the grid turned by a quarter.
+    quarter_linked : AreLinked mesh cut (cell 0 0) (quarter mesh w cell 0 0)
+    quarter_linked = step_next laws cut _ _ (linked_cell (w - 1) 0 (omega (arith, grid.wide)) grid.tall)
+
+  -- The four are corners of the class.
+  pub at_most : {w h : ℕ} {cell : Cells} (grid : IsGrid mesh cut w h cell) (m : ℕ)
+      → ((x : ℕ) → AreLinked mesh cut (cell 0 0) x → IsCorner mesh cut x → m ≤ x) → AtMost mesh w h cell m
+  at_most {w} {h} {cell} grid m least =
+      let east = quarter_grid laws full grid in
+      let far = quarter_grid laws full east in
+      let north = quarter_grid laws full far in
+      let to_east = quarter_linked grid in
+      let to_far = links_join laws cut _ _ _ to_east (quarter_linked east) in
+      let to_north = links_join laws cut _ _ _ to_far (quarter_linked far) in
+      let here = least _ (0, refl) (first_corner grid) in
+      let at_east = least _ to_east (first_corner east) in
+      let at_far = least _ to_far (first_corner far) in
+      let at_north = least _ to_north (first_corner north) in
+      grind (arith, prev_three laws)
 
   -- Two patches.
   pub least_first : {w h : ℕ} {cell : Cells} → IsPatch mesh cut w h cell → AtMost mesh w h cell (cell 0 0)

@@ -1,10 +1,10 @@
 -- Each class of faces of a traced cut has a corner: it lies at the start of a trail, or where another trail ends on it.
 use Rattle.std.proofs.Common.{arith}
-use Rattle.std.proofs.Common.{rules, ◌≡◌, ◌⊎◌, ℕ, zero, suc, ◌<◌, Bool, true, false, Some, sym, ◌∙◌, ap, refl, inl, inr}
+use Rattle.std.proofs.Common.{rules, ◌≡◌, ◌⊎◌, ℕ, zero, suc, ◌<◌, Bool, true, Some, ◌∙◌, ap, refl, inl, inr}
 use Rattle.{std.proofs.lemmas.Bool.cases_Bool, cut_laws.proofs.Folds.spin_next, cut_laws.proofs.Folds.turn_low}
 use Rattle.def_mesh.specs.HalfEdges.{HalfEdges, IsQuadManifold}
-use Rattle.def_cut.specs.{Trails.IsStraight, Trails.Trail, Trails.Joins, Trails.HasSources, Trails.IsTraced, Cuts.Cut}
-use Rattle.def_cut.specs.{Cuts.IsCross, Cuts.Links, Cuts.IsCorner, Laws.CornerLaw, Steps.spin}
+use Rattle.def_cut.specs.{Trails.Trail, Trails.Joins, Trails.HasSources, Trails.IsTraced, Cuts.Cut}
+use Rattle.def_cut.specs.{Cuts.Links, Cuts.IsCorner, Laws.CornerLaw, Steps.spin}
 use Rattle.cut_laws.proofs.Classes.{AreLinked, links_join, step_next, step_over, step_prev, links_low}
 
 -- The class of d has a corner.
@@ -13,11 +13,8 @@ CornerOf mesh cut d = (e : ℕ) × (n : ℕ) × Links mesh cut d e n × IsCorner
 
 module _ {mesh : HalfEdges} (laws : IsQuadManifold mesh) {start cut : ℕ → Bool} (sources : HasSources mesh start)
     (traced : IsTraced mesh start cut) where
-  corner_at : (d e : ℕ) → AreLinked mesh cut d e → IsCorner mesh cut e → CornerOf mesh cut d
-  corner_at d e l corner = (e, l.0, l.1, corner)
-
   from_class : (d e : ℕ) → AreLinked mesh cut d e → CornerOf mesh cut e → CornerOf mesh cut d
-  from_class d e l c = corner_at d c.0 (links_join laws cut d e c.0 l (c.1, c.2)) c.3
+  from_class d e l c = let (n, j) = links_join laws cut d e c.0 l (c.1, c.2) in (c.0, n, j, c.3)
 
   -- Back along a trail on its own side,
   beside : (k d : ℕ) → d < mesh.count → cut d ≡ true → Trail mesh start cut d k → CornerOf mesh cut d
@@ -25,7 +22,7 @@ module _ {mesh : HalfEdges} (laws : IsQuadManifold mesh) {start cut : ℕ → Bo
   beside (suc k) d ld on trail =
       let rest = beside k _ trail.2 trail.3 trail.1 in
       elim (cases_Bool (cut (mesh.prev d))) [
-        | inl before ↦ corner_at d d (0, refl) (ld, on, before)
+        | inl before ↦ (d, 0, refl, (ld, on, before))
         | inr off ↦
             let back = ap mesh.twin (cc (laws.prev_next trail.4.0))
             ∙ laws.twin_twin _ _ (laws.next_low _ trail.2) trail.4.1 in
@@ -40,65 +37,55 @@ module _ {mesh : HalfEdges} (laws : IsQuadManifold mesh) {start cut : ℕ → Bo
   across : (k d t : ℕ) → d < mesh.count → cut d ≡ true → mesh.twin d ≡ Some t → Trail mesh start cut t k
       → CornerOf mesh cut d
   across zero d t ld on tw trail = next_corner d ld on (grind arith)
-  across (suc k) d t ld on tw trail = search (rules, by_next (cases_Bool (cut (mesh.next d))), across k)
-    where
-      by_next : (cut (mesh.next d) ≡ true) ⊎ (cut (mesh.next d) ≡ false) → (c : ℕ) → c < mesh.count → cut c ≡ true
-          → IsStraight mesh c t → {a b e : ℕ} → IsCross mesh t a b e
-          → ((b : ℕ) → b < mesh.count → cut b ≡ true → mesh.twin b ≡ Some c → CornerOf mesh cut b) → CornerOf mesh cut d
-      by_next (inl next) c lc onc s is rest = next_corner d ld on next
-      by_next (inr off) c lc onc s {a} {b} {e} is rest =
-          let first : a ≡ mesh.next c = search rules in
-          let second : mesh.twin c ≡ Some b = cc (laws.prev_next c) in
-          let lb = laws.twin_low c b lc second in
-          let le = turn_low laws b e lb is.third in
-          let last : mesh.prev e ≡ d = grind (arith, laws.twin_twin d t ld tw) in
-          let right : e ≡ mesh.next d = cc (laws.next_prev e) in
-          let over = ap mesh.twin (sym right) ∙ laws.twin_twin _ e (laws.prev_low b lb) is.third in
-          let linked = step_over laws _ d _ _ (step_next laws cut d d (0, refl)) off over in
-          let there = rw (laws.next_prev b) at (step_next laws _ d _ linked) in
-          from_class d b there (rest b lb (traced.alike c b lc second ∙ onc) (laws.twin_twin c b lc second))
+  across (suc k) d t ld on tw (c, trail, lc, onc, (u, tu, ui), (a, b, e, is)) = elim (cases_Bool (cut (mesh.next d))) [
+    | inl next ↦ next_corner d ld on next
+    | inr off ↦
+        let second : mesh.twin c ≡ Some b = grind (arith, laws.prev_next) in
+        let lb = laws.twin_low c b lc second in
+        let over : mesh.twin (mesh.next d) ≡ Some (mesh.prev b) = grind (
+          arith,
+          laws.next_prev,
+          turn_low laws b e lb is.third,
+          laws.prev_low,
+          laws.twin_twin d t ld tw,
+          laws.twin_twin (mesh.prev b) e,
+          laws.twin_twin (mesh.prev e) t,
+        ) in
+        let linked = step_over laws _ d _ _ (step_next laws cut d d (0, refl)) off over in
+        let there = rw (laws.next_prev b) at (step_next laws _ d _ linked) in
+        let back = laws.twin_twin c b lc second in
+        from_class d b there (across k b c lb (traced.alike c b lc second ∙ onc) back trail)
+  ]
 
   -- A walk through the component stays in the class, or meets a cut edge with two darts.
   along : (d n e : ℕ) → d < mesh.count → Joins mesh d e n → (AreLinked mesh cut d e) ⊎ CornerOf mesh cut d
   along d zero e ld j = inl (0, j)
-  along d (suc n) e ld j = elim (along d n j.0 ld j.1) [
+  along d (suc n) e ld (c, j, s) = elim (along d n c ld j) [
     | inr found ↦ inr found
-    | inl l ↦ elim j.2 [
-      | inl s ↦ inl (rw s (step_next laws cut d j.0 l))
-      | inr tw ↦ elim (cases_Bool (cut j.0)) [
-        | inl on ↦ inr (from_class d j.0 l (tracked j.0 (links_low laws cut d j.0 l.0 ld l.1) tw on))
-        | inr off ↦ inl (step_over laws cut d j.0 e l off tw)
+    | inl l ↦ elim s [
+      | inl s ↦ inl (rw s (step_next laws cut d c l))
+      | inr tw ↦ elim (cases_Bool (cut c)) [
+        | inr off ↦ inl (step_over laws cut d c e l off tw)
+        | inl on ↦
+            let low = links_low laws cut d c l.0 ld l.1 in
+            let t = traced.tracked c e low tw on in
+            inr (from_class d c l (search (rules, beside t.0, across t.0, t)))
       ]
     ]
   ]
-    where
-      tracked : (c : ℕ) → c < mesh.count → mesh.twin c ≡ Some e → cut c ≡ true → CornerOf mesh cut c
-      tracked c lc tw on =
-          let t = traced.tracked c e lc tw on in
-          elim t.1 [ inl trail ↦ beside t.0 c lc on trail | inr o ↦ across t.0 c o.0 lc on o.1 o.2 ]
-
-  pub corner_of : (d : ℕ) → d < mesh.count → CornerOf mesh cut d
-  corner_of d ld =
-      let s = sources d ld in
-      elim (along d s.1 s.0 ld s.2) [ inr found ↦ found | inl l ↦ search (rules, links_low) ]
 
 pub corner_law : CornerLaw
-corner_law mesh start cut laws sources traced d ld = corner_of laws sources traced d ld
+corner_law mesh start cut laws sources traced d ld =
+    let s = sources d ld in
+    elim (along laws sources traced d s.1 s.0 ld s.2) [ inr found ↦ found | inl l ↦ search (rules, links_low) ]
 
 -- Steps round a face undo each other and follow each other.
 
 module _ {mesh : HalfEdges} (laws : IsQuadManifold mesh) where
   pub spin_back : (k x : ℕ) → (m : ℕ) × (x ≡ spin mesh m (spin mesh k x))
   spin_back zero x = (0, refl)
-  spin_back (suc k) x = let b = spin_back k x in (suc (suc (suc b.0)), b.1 ∙ home b.0 _)
-    where
-      home : (m y : ℕ) → spin mesh m y ≡ spin mesh (suc (suc (suc m))) (mesh.next y)
-      home m y = cc (
-        laws.four_sides y,
-        spin_next laws m (mesh.next (mesh.next (mesh.next y))),
-        spin_next laws m _,
-        spin_next laws m _,
-      )
+  spin_back (suc k) x = let (m, is) = spin_back k x in
+      (suc (suc (suc m)), cc (is, laws.four_sides (spin mesh m (spin mesh k x)), spin_next laws m (spin mesh k x)))
 
   pub spin_join : (m l y : ℕ) → (n : ℕ) × (spin mesh m (spin mesh l y) ≡ spin mesh n y)
   spin_join zero l y = (l, refl)

@@ -1,9 +1,9 @@
 -- Four faces round a vertex, told by turns and by counting the darts that leave it.
 use Rattle.std.proofs.Common.{rules, ◌≡◌, ◌⊎◌, ℕ, zero, suc, ◌<◌, ◌≤◌, Some, sym, ◌∙◌, ap, refl, inl, inr, arith}
-use Rattle.std.proofs.{lemmas.Bool.cases_eq, lemmas.Bool.cases_lt}
+use Rattle.std.proofs.{lemmas.Bool.cases_eq}
 use Rattle.def_mesh.specs.HalfEdges.{HalfEdges, Turns, IsQuadManifold}
 use Rattle.def_cut.specs.{Cuts.IsCross, Cuts.HasCross, Steps.or_zero}
-use Rattle.cut_laws.proofs.{Folds.turn_from, Folds.turn_low, Folds.turn_same, Pigeon.apart_if}
+use Rattle.cut_laws.proofs.{Folds.turn_from, Folds.turn_low, Folds.turn_same, Pigeon.apart_if, Pigeon.pigeon}
 
 -- Each edge at which a dart arrives at v has two darts.
 abbrev pub IsRound : (mesh : HalfEdges) (v : ℕ) → Type 0
@@ -73,12 +73,19 @@ module _ {mesh : HalfEdges} (laws : IsQuadManifold mesh) where
     -- Two of them that are equal lead back.
     down : (i j : ℕ) → i < j → g i ≡ g j → (k : ℕ) × (g (suc k) ≡ g 0) × (suc k ≤ j)
     down zero (suc j) l e = (j, sym e, omega arith)
-    down (suc i) (suc j) l e = search (
-      rules,
-      down i j (omega arith) (turn_same laws (g i) (g j) (all_leave i).low
-          (all_leave j).low (is i) (is j ∙ ap Some (sym e))),
-    )
+    down (suc i) (suc j) l e =
+        let same = turn_same laws (g i) (g j) (all_leave i).low (all_leave j).low (is i) (is j ∙ ap Some (sym e)) in
+        let (k, back, low) = down i j (omega arith) same in
+        (k, back, omega arith)
     down _ zero l e = absurd (omega arith)
+
+    -- Each dart that leaves v is one of them.
+    pub some_turn : (x : ℕ) → Leaves mesh v x → (j : ℕ) × (g j ≡ x)
+    some_turn x l =
+        let (i, j, less, le, e) = pigeon mesh.count g (λ k h. (all_leave k).low) in
+        let (k, back, far) = down i j less e in
+        let (t, low, is) = all_among k back x l in
+        (t, is)
 
   module _ (v : ℕ) (round : IsRound mesh v) (d : ℕ) (leaves : Leaves mesh v d) where
     turn_is : {x : ℕ} → Leaves mesh v x → mesh.twin (mesh.prev x) ≡ Some (or_zero (mesh.twin (mesh.prev x)))
@@ -131,11 +138,8 @@ module _ {mesh : HalfEdges} (laws : IsQuadManifold mesh) where
     cross_is (suc (suc (suc zero))) = cross.last
     cross_is (suc (suc (suc (suc n)))) = cross_is n
 
-    first_leaves : Leaves mesh (mesh.from d) (of_four d a b c 0)
-    first_leaves = record { low = low; at = refl }
-
     leave : (n : ℕ) → Leaves mesh (mesh.from d) (of_four d a b c n)
-    leave = all_leave {g = of_four d a b c} first_leaves cross_is
+    leave = all_leave {g = of_four d a b c} (record { low = low; at = refl }) cross_is
 
     pub low_a : a < mesh.count
     low_a = (leave 1).low
@@ -157,22 +161,15 @@ module _ {mesh : HalfEdges} (laws : IsQuadManifold mesh) where
 
     -- Each dart of the vertex is one of the four.
     pub four_all : AreAll mesh (mesh.from d) 4 (of_four d a b c)
-    four_all = all_among {g = of_four d a b c} first_leaves cross_is 3 refl
+    four_all = all_among {g = of_four d a b c} (leave 0) cross_is 3 refl
 
     pub one_of_four : (x : ℕ) → Leaves mesh (mesh.from d) x → (x ≡ d) ⊎ ((x ≡ a) ⊎ ((x ≡ b) ⊎ (x ≡ c)))
-    one_of_four x l = let (j, lj, e) = four_all x l in by_place j lj e
-      where
-        by_place : (j : ℕ) → j < 4 → of_four d a b c j ≡ x → (x ≡ d) ⊎ ((x ≡ a) ⊎ ((x ≡ b) ⊎ (x ≡ c)))
-        by_place zero l e = inl (sym e)
-        by_place (suc zero) l e = inr (inl (sym e))
-        by_place (suc (suc zero)) l e = inr (inr (inl (sym e)))
-        by_place (suc (suc (suc zero))) l e = inr (inr (inr (sym e)))
-        by_place (suc (suc (suc (suc j)))) l e = absurd (omega arith)
+    one_of_four x l = grind (arith, four_all x l)
 
     -- They differ.
     pub four_apart : (i j : ℕ) → i < 4 → j < 4 → of_four d a b c i ≡ of_four d a b c j → i ≡ j
     four_apart = apart_if 4 (of_four d a b c) (λ i j l lj e.
-        let r = down {g = of_four d a b c} first_leaves cross_is i j l e in
+        let r = down {g = of_four d a b c} (leave 0) cross_is i j l e in
         back r.0 r.1 (omega arith))
       where
         back : (k : ℕ) → of_four d a b c (suc k) ≡ d → suc k < 4 → ⊥

@@ -1,8 +1,8 @@
 -- Small facts on the half edges of a manifold.
 use Rattle.std.proofs.Common.{rules}
-use Rattle.std.proofs.Common.{◌≡◌, ℕ, ◌<◌, Some, sym, ◌⊎◌, zero, suc, inl, inr, ◌-◌, ◌/◌, false, ◌∙◌, ap, refl, arith}
+use Rattle.std.proofs.Common.{◌≡◌, ℕ, ◌<◌, Some, sym, ◌⊎◌, zero, suc, inl, ◌-◌, ◌/◌, false, ◌∙◌, ap, refl, arith}
 use Rattle.{std.proofs.lemmas.Bool.cases_eq, cut_laws.proofs.Pigeon.same_if}
-use Rattle.def_mesh.specs.HalfEdges.{HalfEdges, AreTurned, Turns, IsQuadManifold}
+use Rattle.def_mesh.specs.HalfEdges.{HalfEdges, Turns, IsQuadManifold}
 use Rattle.def_cut.specs.{Cuts.Cut, Cuts.IsUncut, Cuts.IsCut, Grids.Cells, Grids.IsGrid, Steps.spin, Laws.NoFoldLaw}
 
 module _ {mesh : HalfEdges} (laws : IsQuadManifold mesh) where
@@ -50,13 +50,8 @@ module _ {mesh : HalfEdges} (laws : IsQuadManifold mesh) where
   pub two_darts : (d e : ℕ) → d < mesh.count → e < mesh.count → mesh.twin (mesh.prev d) ≡ Some e
       → mesh.twin (mesh.prev e) ≡ Some d → (n x : ℕ) → Turns mesh d x n → (x ≡ d) ⊎ (x ≡ e)
   two_darts d e ld le one two zero x t = inl (sym t)
-  two_darts d e ld le one two (suc n) x t = by_before t.0 t.2 (two_darts d e ld le one two n t.0 t.1) t.3
-    where
-      by_before : (y : ℕ) → x < mesh.count → (y ≡ d) ⊎ (y ≡ e) → AreTurned mesh y x → (x ≡ d) ⊎ (x ≡ e)
-      by_before y lx (inl s) (inl r) = inr (cc)
-      by_before y lx (inl s) (inr r) = inr (turn_same x e lx le (cc) two)
-      by_before y lx (inr s) (inl r) = inl (cc)
-      by_before y lx (inr s) (inr r) = inl (turn_same x d lx ld (cc) one)
+  two_darts d e ld le one two (suc n) x t =
+      grind (arith, two_darts d e ld le one two n t.0 t.1, turn_same x d, turn_same x e, t.3)
 
 -- Two grids are one.
 pub record AreOne (w h v g : ℕ) (cell tile : Cells) : Type 0 where
@@ -110,11 +105,10 @@ module _ {mesh : HalfEdges} (laws : IsQuadManifold mesh) {cut : Cut} (full : IsC
   common_west : {w h v g : ℕ} {cell tile : Cells} → IsGrid mesh cut w h cell → IsGrid mesh cut v g tile
       → (i a : ℕ) {j b : ℕ} → i < w → a < v → j < h → b < g → cell i j ≡ tile a b → (i ≡ a) × (cell 0 j ≡ tile 0 b)
   common_west one two zero zero li la lj lb e = (refl, e)
-  common_west one two (suc i) (suc a) {j} {b} li la lj lb e = search (
-    rules,
-    common_west one two i a (omega arith)
-        (omega arith) lj lb (next_same laws _ _ (cc (west one i j li lj, west two a b la lb))),
-  )
+  common_west one two (suc i) (suc a) {j} {b} li la lj lb e =
+      let same = next_same laws _ _ (cc (west one i j li lj, west two a b la lb)) in
+      let (place, first) = common_west one two i a (omega arith) (omega arith) lj lb same in
+      (ap suc place, first)
   common_west one two zero (suc a) {j} {b} li la lj lb e = absurd (cc (one.west_shut j lj, west_open two a b la lb))
   common_west one two (suc i) zero {j} {b} li la lj lb e = absurd (cc (two.west_shut b lb, west_open one i j li lj))
 
@@ -162,12 +156,10 @@ module _ {mesh : HalfEdges} (laws : IsQuadManifold mesh) {cut : Cut} (full : IsC
         → cut d ≡ false → cut (mesh.prev d) ≡ false → cut e ≡ false → cut (mesh.prev e) ≡ false → ⊥
     two_turns d e ld one two off_d off_pd off_e off_pe = let c = full.crossed d ld uncut in search rules
       where
-        off : (x : ℕ) → (x ≡ d) ⊎ (x ≡ e) → (cut x ≡ false) × (cut (mesh.prev x) ≡ false)
-        off x (inl s) = rw s (off_d, off_pd)
-        off x (inr s) = rw s (off_e, off_pe)
-
         uncut : IsUncut mesh cut (mesh.from d)
-        uncut x lx s = search (rules, two_darts)
+        uncut x lx s =
+            let (n, t) = laws.one_fan d x ld lx (sym s) in
+            grind (arith, two_darts laws d e ld (turn_low laws d e ld one) one two n x t)
 
     at_vertex : (i j : ℕ) → suc i < w → suc j < h → cell i j ≡ mesh.next (mesh.next (cell (suc i) (suc j))) → ⊥
     at_vertex i j li lj e =
@@ -183,16 +175,11 @@ module _ {mesh : HalfEdges} (laws : IsQuadManifold mesh) {cut : Cut} (full : IsC
         let lx : x < w = omega (arith, grid.wide) in
         let ly : y < h = omega (arith, grid.tall) in
         let e = half x y lx ly in
-        elim (cases_eq (w - suc x) x) [
-          | inl p ↦ elim (cases_eq (h - suc y) y) [
-            | inl q ↦ (laws.corners_differ _ (grid.low x y lx ly)).1 (ap mesh.from (cc (e, p, q)))
-            | inr nq ↦ grind arith
-          ]
-          | inr np ↦ let p : w - suc x ≡ suc x = omega arith in elim (cases_eq (h - suc y) y) [
-            | inl q ↦ grind (arith, prev_three laws (cell (suc x) y))
-            | inr nq ↦ search (rules, at_vertex)
-          ]
-        ]
+        let face = laws.corners_differ (cell x y) (grid.low x y lx ly) in
+        let third = prev_three laws (cell (suc x) y) in
+        let column = cases_eq (w - suc x) x in
+        let row = cases_eq (h - suc y) y in
+        grind (arith, no_self laws, grid.east x y, grid.north x y, at_vertex x y)
 
     no_half_turn : (i j a b : ℕ) → i < w → j < h → a < w → b < h → cell i j ≡ mesh.next (mesh.next (cell a b)) → ⊥
     no_half_turn i j a b li lj la lb e =

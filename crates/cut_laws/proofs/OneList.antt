@@ -1,9 +1,9 @@
 -- At most one list of patches holds each face once.
-use Rattle.std.proofs.Common.{rules, ◌≡◌, ℕ, suc, ◌+◌, ◌*◌, ◌/◌, ◌%◌, ◌<◌, List, [], map, length, get_or, ap, refl}
+use Rattle.std.proofs.Common.{rules, ◌≡◌, ℕ, suc, ◌+◌, ◌*◌, ◌/◌, ◌%◌, ◌<◌, List, [], map, length, get_or, ap}
 use Rattle.std.proofs.{Common.arith, Math.Nat.div-lt_iff_lt-mul, lemmas.List.ext_get_or}
 use Rattle.def_cut.specs.Grids.{IsPatch, Rectangle, cell_of, patch_at, least_of, IsSide, IsPartition}
-use Rattle.cut_laws.proofs.{Corners.spun, Folds.no_fold, Folds.AreOne, Classes.In, Classes.one_patch}
-use Rattle.cut_laws.proofs.Pigeon.{increasing_place, same_many, same_values}
+use Rattle.cut_laws.proofs.{Corners.spun, Folds.no_fold, Folds.AreOne, Classes.In, Classes.one_patch, Classes.first_in}
+use Rattle.cut_laws.proofs.Pigeon.{AreIncreasing, increasing_place, same_many, same_values}
 use Rattle.{def_mesh.specs.HalfEdges.HalfEdges, def_mesh.specs.HalfEdges.IsQuadManifold, def_cut.specs.Cuts.Cut}
 use Rattle.{def_cut.specs.Cuts.IsCut, def_cut.specs.Laws.OneListLaw}
 
@@ -75,35 +75,26 @@ module _ {mesh : HalfEdges} (laws : IsQuadManifold mesh) {cut : Cut} (full : IsC
       → p < length ps → (q : ℕ) × (q < length qs) × (patch_at ps p ≡ patch_at qs q)
   found ps qs a b p lp =
       let grid = (a.patch p lp).grid in
-      let (q, i, j, k, lq, s) = b.covers _ (grid.low 0 0 grid.wide grid.tall) in (
-        q,
-        lq,
-        shared ps qs (tiles ps a) (tiles qs b) p q _ lp lq (
-          0,
-          record { a = 0; b = 0; a_low = grid.wide; b_low = grid.tall; is = refl },
-        ) (k, record { a = i; b = j; a_low = s.i_low; b_low = s.j_low; is = s.is }),
-      )
+      let (q, i, j, k, lq, s) = b.covers _ (grid.low 0 0 grid.wide grid.tall) in
+      let there : LiesInPatch mesh (patch_at qs q) (cell_of (patch_at ps p) 0 0) =
+      (k, record { a = i; b = j; a_low = s.i_low; b_low = s.j_low; is = s.is }) in
+      (q, lq, shared ps qs (tiles ps a) (tiles qs b) p q _ lp lq (first_in laws full grid) there)
 
-  pub one_list : (ps qs : List Rectangle) → IsPartition mesh cut face ps → IsPartition mesh cut face qs → ps ≡ qs
-  one_list ps qs a b = ext_get_or (record { w = 0; h = 0; cells = [] }) ps qs many each
-    where
-      least_there : {ps qs : List Rectangle} → IsPartition mesh cut face ps → IsPartition mesh cut face qs → (p : ℕ)
-          → p < length ps → (q : ℕ) × (q < length qs) × (least_at face ps p ≡ least_at face qs q)
-      least_there {ps} {qs} a b p l = let f : (q : ℕ) × (q < length qs) × (patch_at ps p ≡ patch_at qs q) =
-          found ps qs a b p l in (f.0, f.1, ap (λ (r : Rectangle). least_of (map face r.cells)) f.2)
-
-      many : length ps ≡ length qs
-      many = same_many (least_at face ps) (least_at face qs) (length ps) (length qs) (record { step = a.ordered })
-          (record { step = b.ordered }) (least_there a b) (least_there b a)
-
-      each : (p : ℕ) → p < length ps → patch_at ps p ≡ patch_at qs p
-      each p l =
-          let f = found ps qs a b p l in
-          let values = same_values (least_at face ps) (least_at face qs) (length ps) (length qs)
-          (record { step = a.ordered }) (record { step = b.ordered }) (least_there a b) (least_there b a) p l in
-          let place = increasing_place (least_at face qs) (length qs) (record { step = b.ordered }) f.0 p f.1
-          (omega (arith, many)) (cc (f.2, values)) in
-          cc (f.2, place)
+  least_there : {ps qs : List Rectangle} → IsPartition mesh cut face ps → IsPartition mesh cut face qs → (p : ℕ)
+      → p < length ps → (q : ℕ) × (q < length qs) × (least_at face ps p ≡ least_at face qs q)
+  least_there {ps} {qs} a b p l =
+      let (q, low, is) = found ps qs a b p l in
+      (q, low, ap (λ r. least_of (map face r.cells)) is)
 
 pub one_list_law : OneListLaw
-one_list_law mesh cut face laws full ps qs a b = one_list laws full face ps qs a b
+one_list_law mesh cut face laws full ps qs a b =
+    let ra : AreIncreasing (least_at face ps) (length ps) = record { step = a.ordered } in
+    let rb : AreIncreasing (least_at face qs) (length qs) = record { step = b.ordered } in
+    let there = least_there laws full face a b in
+    let back = least_there laws full face b a in
+    let many : length ps ≡ length qs = same_many _ _ _ _ ra rb there back in
+    ext_get_or (record { w = 0; h = 0; cells = [] }) ps qs many (λ p l.
+    let (q, low, is) = found laws full face ps qs a b p l in
+    let values = same_values _ _ _ _ ra rb there back p l in
+    let place = increasing_place _ _ rb q p low (omega arith) (cc (is, values)) in
+    cc (is, place))

@@ -1,6 +1,6 @@
 -- Strictly increasing numbers: each stands at one place, and two such with the same values are one.
-use Rattle.std.proofs.Common.{rules, ◌≡◌, ℕ, zero, suc, ◌<◌, ◌≤◌, sym, ◌∙◌, ap, inl, inr, arith, ◌⊎◌, cond, ◌==◌}
-use Rattle.std.proofs.lemmas.Bool.{cases_eq, cases_order, cases_lt}
+use Rattle.std.proofs.Common.{rules, ◌≡◌, ℕ, zero, suc, ◌<◌, ◌≤◌, sym, inl, inr, arith, ◌⊎◌, cond, ◌==◌}
+use Rattle.std.proofs.lemmas.Bool.{cases_eq, cases_lt}
 
 -- Numbers of which neither is less are equal.
 pub same_if : {a b : ℕ} → (a < b → ⊥) → (b < a → ⊥) → a ≡ b
@@ -35,14 +35,8 @@ module _ (a b : ℕ → ℕ) (n m : ℕ) (ra : AreIncreasing a n) (rb : AreIncre
       grind (arith, same_below k, there k ln, back k lm, not_below ra rb k ln, not_below rb ra k lm)
 
   pub same_many : n ≡ m
-  same_many = elim (cases_order n m) [
-    | inl s ↦ s
-    | inr (inl l) ↦
-        let (j, low, e) = back n l in
-        let place = increasing_place b m rb n j l (omega arith) (e ∙ same_below n (omega arith) (omega arith) j low) in
-        absurd (omega arith)
-    | inr (inr l) ↦ grind (arith, there m l, increasing_place a n ra m, same_below m)
-  ]
+  same_many = same_if (λ l. grind (arith, back n l, increasing_place b m rb n, same_below n))
+      (λ l. grind (arith, there m l, increasing_place a n ra m, same_below m))
 
   pub same_values : (k : ℕ) → k < n → a k ≡ b k
   same_values k l = same_below n (omega arith) (let e = same_many in omega arith) k l
@@ -54,15 +48,12 @@ pub sent_or_not : (f : ℕ → ℕ) (v n : ℕ) → ((k : ℕ) × (k < n) × (f 
 sent_or_not f v zero = inr (λ k l e. omega arith)
 sent_or_not f v (suc n) = grind (arith, cases_eq (f n) v, sent_or_not f v n)
 
--- Two places below a bound have one number.
-abbrev pub Meets : (f : ℕ → ℕ) (n : ℕ) → Type 0
-Meets f n = (i : ℕ) × (j : ℕ) × (i < j) × (j ≤ n) × (f i ≡ f j)
-
 -- The values of f, with the one past the end in place of n.
 abbrev filled : (f : ℕ → ℕ) (n k : ℕ) → ℕ
 filled f n k = cond (f k == n) (f (suc n)) (f k)
 
-pub pigeon : (n : ℕ) (f : ℕ → ℕ) → ((k : ℕ) → k ≤ n → f k < n) → Meets f n
+-- Two places below a bound have one number.
+pub pigeon : (n : ℕ) (f : ℕ → ℕ) → ((k : ℕ) → k ≤ n → f k < n) → (i : ℕ) × (j : ℕ) × (i < j) × (j ≤ n) × (f i ≡ f j)
 pigeon zero f low = absurd (let l : f 0 < 0 = low 0 (omega arith) in omega arith)
 pigeon (suc n) f low = elim (sent_or_not f (f (suc n)) (suc n)) [
   | inl (k, k_low, e) ↦ (k, suc n, k_low, omega arith, e)
@@ -86,19 +77,17 @@ abbrev place_in : (g : ℕ → ℕ) (m x : ℕ) → ℕ
 place_in g zero x = 0
 place_in g (suc m) x = cond (g m == x) m (place_in g m x)
 
-place_there : (g : ℕ → ℕ) (m x j : ℕ) → j < m → g j ≡ x → (place_in g m x < m) × (g (place_in g m x) ≡ x)
-place_there g zero x j l e = absurd (omega arith)
-place_there g (suc m) x j l e = grind (arith, place_there g m x j)
+place_there : (g : ℕ → ℕ) (m x : ℕ) → (j : ℕ) × (j < m) × (g j ≡ x) → (place_in g m x < m) × (g (place_in g m x) ≡ x)
+place_there g zero x t = absurd (omega arith)
+place_there g (suc m) x t = grind (arith, place_there g m x)
 
 -- Values of which no two are equal, and which all stand among m others, are at most m.
 pub no_more : (n m : ℕ) (f g : ℕ → ℕ) → ((i j : ℕ) → i < n → j < n → f i ≡ f j → i ≡ j)
     → ((i : ℕ) → i < n → (j : ℕ) × (j < m) × (g j ≡ f i)) → n ≤ m
 no_more n m f g apart there = elim (cases_lt m n) [
   | inl l ↦
+      let at = λ (i : ℕ) (l : i < n). place_there g m (f i) (there i l) in
       let (i, j, less, le, e) = pigeon m (λ i. place_in g m (f i)) (λ i h. (at i (omega arith)).0) in
       search (rules, at)
   | inr h ↦ h
 ]
-  where
-    at : (i : ℕ) → i < n → (place_in g m (f i) < m) × (g (place_in g m (f i)) ≡ f i)
-    at i l = let t = there i l in place_there g m (f i) t.0 t.1 t.2

@@ -1,13 +1,13 @@
 -- Rows of cells in a full cut: they stay straight, stand one over the other with one width, and end.
-use Rattle.std.proofs.Common.{◌≡◌, ℕ, zero, suc, ◌<◌, ◌≤◌, true, false, Option, Some, None, sym, ◌∙◌, ap, refl, inl}
+use Rattle.std.proofs.Common.{◌≡◌, ℕ, zero, suc, ◌<◌, ◌≤◌, true, false, Some, sym, ◌∙◌, ap, refl, inl}
 use Rattle.std.proofs.Common.{rules, inr, arith, ◌⊎◌, Bool}
-use Rattle.std.proofs.lemmas.Bool.{false≢true, true_from_ne_false, cases_eq, cases_Bool}
-use Rattle.std.proofs.lemmas.Option.{same_Some}
-use Rattle.def_mesh.specs.HalfEdges.{HalfEdges, Turns, IsQuadManifold}
-use Rattle.def_cut.specs.{Cuts.Cut, Cuts.HasCross, Cuts.GoesOn, Cuts.IsCut, Cuts.IsCorner, Steps.or_zero}
+use Rattle.std.proofs.lemmas.Bool.{false_from_ne_true, cases_Bool}
+use Rattle.def_mesh.specs.HalfEdges.{HalfEdges, IsQuadManifold}
+use Rattle.def_cut.specs.{Cuts.Cut, Cuts.HasCross, Cuts.IsCut, Cuts.IsCorner, Steps.or_zero}
 use Rattle.def_cut.specs.{Steps.step_east, Steps.step_north, Steps.easts, Steps.norths, Grids.IsGrid, Laws.GridLaw}
 use Rattle.cut_laws.{specs.Grown.IsRow, specs.Grown.grown, specs.Grown.IsGrown, proofs.Pigeon.comes_back}
-use Rattle.cut_laws.proofs.Folds.{prev_three, prev_twice, turn_from, turn_low, turn_same, twin_same}
+use Rattle.cut_laws.proofs.Folds.{prev_three, prev_twice, turn_low, twin_same}
+use Rattle.cut_laws.proofs.Crosses.{turned, some_turn, low_b, low_c, at_c}
 
 -- The edges of d and of the dart before it are not cut.
 abbrev pub IsOpen : (mesh : HalfEdges) (cut : Cut) (d : ℕ) → Type 0
@@ -30,11 +30,7 @@ norths_turned mesh d (suc j) = ap (step_east mesh) (norths_turned mesh d j)
 module _ {mesh : HalfEdges} (laws : IsQuadManifold mesh) {cut : Cut} (full : IsCut mesh cut) where
   -- Where the edge is not cut it has two darts.
   pub twin_there : (d : ℕ) → d < mesh.count → cut d ≡ false → (t : ℕ) × (mesh.twin d ≡ Some t)
-  twin_there d l off = by_twin _ refl
-    where
-      by_twin : (o : Option ℕ) → mesh.twin d ≡ o → (t : ℕ) × (mesh.twin d ≡ Some t)
-      by_twin None is = absurd (cc (full.boundary d l is))
-      by_twin (Some t) is = (t, is)
+  twin_there d l off = (or_zero (mesh.twin d), grind (arith, full.boundary d l))
 
   pub east_twin : (d : ℕ) → d < mesh.count → cut (mesh.next d) ≡ false → mesh.twin (mesh.next d)
       ≡ Some (mesh.prev (step_east mesh d))
@@ -50,101 +46,52 @@ module _ {mesh : HalfEdges} (laws : IsQuadManifold mesh) {cut : Cut} (full : IsC
   pub north_low : (d : ℕ) → d < mesh.count → cut (mesh.next (mesh.next d)) ≡ false → step_north mesh d < mesh.count
   north_low d l off = laws.twin_low _ _ (laws.next_low _ (laws.next_low d l)) (north_twin d l off)
 
-  -- The edge west of the cell that lies east, and the edge south of the one that lies north, is not cut.
+  -- The edge west of the cell that lies east is not cut.
   pub west_off : (d : ℕ) → d < mesh.count → cut (mesh.next d) ≡ false → cut (mesh.prev (step_east mesh d)) ≡ false
   west_off d l off = full.alike _ _ (laws.next_low d l) (east_twin d l off) ∙ off
 
-  pub south_off : (d : ℕ) → d < mesh.count → cut (mesh.next (mesh.next d)) ≡ false → cut (step_north mesh d) ≡ false
-  south_off d l off = full.alike _ _ (laws.next_low _ (laws.next_low d l)) (north_twin d l off) ∙ off
-
   -- Two neighbouring edges at a vertex that are not cut: then the next one is not cut either, one way round ..
   open_turn : {d e : ℕ} → d < mesh.count → IsOpen mesh cut d → mesh.twin (mesh.prev d) ≡ Some e → IsOpen mesh cut e
-  open_turn {d} {e} l free t = (here, search (rules, by_gap))
-    where
-      here : cut e ≡ false
-      here = full.alike _ e (laws.prev_low d l) t ∙ free.1
-
-      back : mesh.twin e ≡ Some (mesh.prev d)
-      back = laws.twin_twin _ e (laws.prev_low d l) t
-
-      by_gap : GoesOn mesh cut (mesh.prev e) → ⊥
-      by_gap (inl on) = cc (on, laws.next_prev e, here)
-      by_gap (inr g) = search rules
+  open_turn {d} {e} l free t =
+      let here = full.alike _ e (laws.prev_low d l) t ∙ free.1 in
+      let back = laws.twin_twin _ e (laws.prev_low d l) t in
+      let gap = full.gaps _ (laws.prev_low e (turn_low laws d e l t)) in
+      (here, false_from_ne_true _ (λ on. grind (arith, gap on, laws.next_prev)))
 
   -- .. and so all the way round, back to the first.
-  turn : ℕ → ℕ
-  turn d = or_zero (mesh.twin (mesh.prev d))
-
-  turns : ℕ → ℕ → ℕ
-  turns d zero = d
-  turns d (suc n) = turn (turns d n)
-
-  turn_is : {d : ℕ} → d < mesh.count → IsOpen mesh cut d → mesh.twin (mesh.prev d) ≡ Some (turn d)
-  unfolding turn
+  turn_is : {d : ℕ} → d < mesh.count → IsOpen mesh cut d → mesh.twin (mesh.prev d) ≡ Some (turned mesh d 1)
   turn_is {d} l free = let t = twin_there _ (laws.prev_low d l) free.1 in cc
 
-  turns_open : {d : ℕ} → d < mesh.count → IsOpen mesh cut d → (n : ℕ) → (turns d n < mesh.count)
-      × IsOpen mesh cut (turns d n)
-  unfolding turns
+  turns_open : {d : ℕ} → d < mesh.count → IsOpen mesh cut d → (n : ℕ) → (turned mesh d n < mesh.count)
+      × IsOpen mesh cut (turned mesh d n)
   turns_open l free zero = (l, free)
   turns_open {d} l free (suc n) = search (rules, turn_is, open_turn, turn_low, turns_open l free n)
-
-  open_back : (d e : ℕ) → d < mesh.count → e < mesh.count → IsOpen mesh cut d → mesh.twin (mesh.prev e) ≡ Some d
-      → IsOpen mesh cut e
-  unfolding turns
-  open_back d e ld le free t =
-      let apart : (i j : ℕ) → turns d (suc i) ≡ turns d (suc j) → turns d i ≡ turns d j = λ i j s. turn_same laws _
-      _ (turns_open ld free i).0 (turns_open ld free j).0 (is i) (cc (is j)) in
-      let r = comes_back _ _ (λ k l. (turns_open ld free k).0) (λ i j li lj. apart i j) in
-      let o = turns_open ld free r.0 in
-      let same : turns d r.0 ≡ e = turn_same laws _ e o.0 le (cc (is r.0)) t in
-      rw same at o.1
-    where
-      is : (k : ℕ) → mesh.twin (mesh.prev (turns d k)) ≡ Some (turns d (suc k))
-      is k = search (rules, turns_open, turn_is)
 
   -- Two neighbouring edges that are not cut: no edge at the vertex is cut.
   pub no_cut : (d : ℕ) → d < mesh.count → IsOpen mesh cut d → (e : ℕ) → e < mesh.count → mesh.from e ≡ mesh.from d
       → IsOpen mesh cut e
-  no_cut d l free e le s = let t = laws.one_fan d e l le (sym s) in (along t.0 e t.1).1
-    where
-      along : (n x : ℕ) → Turns mesh d x n → (x < mesh.count) × (IsOpen mesh cut x)
-      along zero x t = rw (← t) (l, free)
-      along (suc n) x t =
-          let o = along n t.0 t.1 in
-          elim t.3 [ inl r ↦ (t.2, open_turn o.0 o.1 r) | inr r ↦ (t.2, open_back t.0 x o.0 t.2 o.1 r) ]
+  no_cut d l free e le s =
+      let (j, is) = some_turn laws {g = turned mesh d} (record { low = l; at = refl })
+      (λ n. let o = turns_open l free n in turn_is o.0 o.1) e (record { low = le; at = s }) in
+      rw is at (turns_open l free j).1
 
   pub cross_at : (d : ℕ) → d < mesh.count → IsOpen mesh cut d → HasCross mesh d
-  cross_at d l free = full.crossed d l (λ e le s. let o = no_cut d l free e le s in (o.0, o.1))
-
-  -- The south edge goes on to the east.
-  pub south_on : (d : ℕ) → d < mesh.count → cut d ≡ true → cut (mesh.next d) ≡ false → cut (step_east mesh d) ≡ true
-  south_on d l on off = search rules
-
-  -- The east edge goes on to the north.
-  pub east_on : (d : ℕ) → d < mesh.count → cut (mesh.next d) ≡ true → cut (mesh.next (mesh.next d)) ≡ false
-      → cut (mesh.next (step_north mesh d)) ≡ true
-  east_on d l on off = search rules
+  cross_at d l free = full.crossed d l (no_cut d l free)
 
   -- The west edge goes on to the north.
   pub west_on : (d : ℕ) → d < mesh.count → cut (mesh.prev d) ≡ true → cut (mesh.next (mesh.next d)) ≡ false
       → cut (mesh.prev (step_north mesh d)) ≡ true
   west_on d l on off =
       let meets : mesh.from (mesh.prev d) ≡ mesh.from (step_north mesh d) = search (rules, prev_three) in
-      grind (arith, no_cut, north_low d l off, south_off d l off)
+      let south = full.alike _ _ (laws.next_low _ (laws.next_low d l)) (north_twin d l off) ∙ off in
+      grind (arith, no_cut, north_low d l off)
 
   -- The north edges on both sides of an east edge that is not cut are cut or not together.
-  corner_east : (d : ℕ) → d < mesh.count → cut (mesh.next d) ≡ false → mesh.from (mesh.prev (step_east mesh d))
-      ≡ mesh.from (mesh.next (mesh.next d))
-  corner_east d l off = (laws.twin_ends _ _ (laws.next_low d l) (east_twin d l off)).0
-
-  pub north_off : (d : ℕ) → d < mesh.count → cut (mesh.next d) ≡ false → cut (mesh.next (mesh.next d)) ≡ false
-      → cut (mesh.next (mesh.next (step_east mesh d))) ≡ false
-  north_off d l off up = grind (arith, no_cut, east_low d l off, corner_east d l off, prev_twice laws)
-
   pub north_alike : (d : ℕ) → d < mesh.count → cut (mesh.next d) ≡ false
       → cut (mesh.next (mesh.next (step_east mesh d))) ≡ cut (mesh.next (mesh.next d))
-  north_alike d l off = grind (arith, no_cut, east_low d l off, west_off d l off, prev_twice laws, corner_east d l off)
+  north_alike d l off =
+      let meets = (laws.twin_ends _ _ (laws.next_low d l) (east_twin d l off)).0 in
+      grind (arith, no_cut, east_low d l off, west_off d l off, prev_twice laws)
 
   -- East and north of a cell without a cut edge there: the edge between the two cells above is not cut, and both ways
   -- lead to one cell.
@@ -152,21 +99,15 @@ module _ {mesh : HalfEdges} (laws : IsQuadManifold mesh) {cut : Cut} (full : IsC
       → (cut (mesh.next (step_north mesh d)) ≡ false)
       × (step_east mesh (step_north mesh d) ≡ step_north mesh (step_east mesh d))
   square d l off up =
-      let lx = laws.next_low (mesh.next d) (laws.next_low d l) in
-      let free : IsOpen mesh cut (mesh.next (mesh.next d)) = (up, ap cut (laws.prev_next (mesh.next d)) ∙ off) in
-      let (a, b, c, is) = cross_at (mesh.next (mesh.next d)) lx free in
-      let x : ℕ = mesh.next (mesh.next d) in
-      let first = same_Some a (mesh.prev (step_east mesh d)) (search rules) in
-      let la : a < mesh.count = turn_low laws x a lx is.first in
-      let lb : b < mesh.count = turn_low laws a b la is.second in
-      let lc : c < mesh.count = turn_low laws b c lb is.third in
-      let above = ap (λ y. or_zero (mesh.twin y)) (sym (ap mesh.prev first ∙ prev_twice laws (step_east mesh d)))
-      ∙ ap or_zero is.second in
-      let last = same_Some (mesh.prev c) (step_north mesh d)
-      (sym (laws.twin_twin (mesh.prev c) x (laws.prev_low c lc) is.last) ∙ north_twin d l up) in
-      let right : c ≡ mesh.next (step_north mesh d) = sym (laws.next_prev c) ∙ ap mesh.next last in
-      let back = ap mesh.twin (sym right) ∙ laws.twin_twin (mesh.prev b) c (laws.prev_low b lb) is.third in
-      search (rules, turn_from, no_cut)
+      let x = mesh.next (mesh.next d) in
+      let lx : x < mesh.count = laws.next_low (mesh.next d) (laws.next_low d l) in
+      let free : IsOpen mesh cut x = (up, ap cut (laws.prev_next (mesh.next d)) ∙ off) in
+      let (a, b, c, is) = cross_at x lx free in
+      let lc = low_c laws x a b c lx is in
+      let shut = no_cut x lx free c lc (at_c laws x a b c lx is) in
+      let back = laws.twin_twin (mesh.prev b) c (laws.prev_low b (low_b laws x a b c lx is)) is.third in
+      let last = laws.twin_twin (mesh.prev c) x (laws.prev_low c lc) is.last in
+      grind (arith, laws.prev_next, laws.next_prev, prev_twice laws, east_twin d l off, north_twin d l up)
 
   -- A row.
   pub row_low : (s w : ℕ) → IsRow mesh cut s w → (i : ℕ) → i < w → easts mesh s i < mesh.count
