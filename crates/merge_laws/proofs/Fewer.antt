@@ -1,181 +1,152 @@
 -- Without a joinable arc there is one patch less.
-use Rattle.std.proofs.Common.{◌≡◌, ◌≢◌, ◌⊎◌, ℕ, zero, suc, ◌+◌, ◌-◌, ◌<◌, ◌≤◌, ◌==◌, Bool, true, false, not, List}
-use Rattle.std.proofs.Common.{rules, length, sym, ◌∙◌, ap, refl, inl, inr, arith}
-use Rattle.std.proofs.{lemmas.Bool.cases_eq, lemmas.Bool.eq-eqb, lemmas.Bool.ne_eqb, lemmas.Option.same_Some}
-use Rattle.sum_laws.proofs.Sums.{count_below_one, count_below_ones, count_below_same, count_below_sum}
-use Rattle.written_laws.proofs.Spacings.{one_if, passing, passing_all, passing_le}
+use Rattle.std.proofs.Common.{◌≡◌, ◌≢◌, ℕ, zero, suc, ◌-◌, ◌<◌, ◌==◌, true, cond, List, length}
+use Rattle.std.proofs.Common.{rules, sym, ◌∙◌, ap, refl, inl, inr, arith}
+use Rattle.std.proofs.lemmas.Bool.{cases_eq, cases_lt, Decides.nat_tests}
+use Rattle.written_laws.proofs.Spacings.{AreNumbers, numbers_le, passing_all}
 use Rattle.def_mesh.specs.HalfEdges.{HalfEdges, IsQuadManifold}
-use Rattle.def_cut.specs.{Cuts.Cut, Cuts.Links, Cuts.IsCut, Grids.IsGrid, Grids.IsPartition, Grids.Rectangle}
-use Rattle.def_cut.specs.{Grids.cell_of, Grids.patch_at, Steps.easts}
-use Rattle.cut_laws.proofs.Classes.{links_join, links_low, linked_back, linked_in, step_next, step_over}
-use Rattle.def_merge.specs.{Joins.AreInOne, Joins.IsJoinable, Joins.IsOnArc, Joins.IsWholeSide, Joins.IsWithout}
-use Rattle.def_merge.specs.{Laws.FewerLaw}
-use Rattle.merge_laws.proofs.Joins.{IsIn, one_place_of, links_less, on_low, on_or_not, on_twin, join_law}
-use Rattle.{merge_laws.proofs.Sides.grid_on, def_math.specs.Counts.count_below}
+use Rattle.def_cut.specs.{Cuts.Cut, Cuts.Links, Cuts.IsCut, Grids.IsPartition, Grids.Rectangle, Grids.cell_of}
+use Rattle.def_cut.specs.{Grids.patch_at, Steps.easts}
+use Rattle.cut_laws.proofs.Classes.{first_in, links_join, links_low, linked_back, linked_in, step_over}
+use Rattle.def_merge.specs.{Joins.AreInOne, Joins.IsJoinable, Joins.IsOnArc, Joins.IsWithout, Laws.FewerLaw}
+use Rattle.merge_laws.proofs.Joins.{IsIn, one_place_of, links_less, on_or_not, paired, join_law}
+use Rattle.merge_laws.proofs.Sides.{side_low, side_linked}
 
--- All numbers below a bound but one.
-one_less : (u m : ℕ) → u < m → suc (passing (λ k. not (k == u)) m) ≡ m
-one_less u m low =
-    let by_test : (b : Bool) → one_if (not b) + one_if b ≡ 1 = elim [ true ↦ refl | false ↦ refl ] in
-    let parts : count_below (λ k. one_if (not (k == u)) + one_if (k == u)) m ≡ count_below (λ k. one_if (not (k == u)))
-    m + count_below (λ k. one_if (k == u)) m = count_below_sum (λ k. one_if (not (k == u))) (λ k. one_if (k == u)) m in
-    let all : count_below (λ k. one_if (not (k == u)) + one_if (k == u)) m ≡ count_below (λ k. 1) m = count_below_same
-    (λ k. one_if (not (k == u)) + one_if (k == u)) (λ k. 1) m (λ k l. by_test (k == u)) in
-    let one : count_below (λ k. one_if (k == u)) m ≡ 1 = count_below_one (λ k. one_if (k == u)) m u low
-    (λ k l apart. ap one_if (ne_eqb k u apart)) ∙ ap one_if (eq-eqb u u refl) in
-    omega (arith, count_below_ones m)
-
--- The darts beside the arc, and what is linked without it.
-module _ {mesh : HalfEdges} (laws : IsQuadManifold mesh) {cut rest : Cut} (full : IsCut mesh cut) {s t n : ℕ}
-    (arc : IsJoinable mesh cut s t n) (without : IsWithout mesh cut rest s t n) where
-  abbrev Beside : ℕ → Type 0
-  Beside x = AreInOne mesh cut s x ⊎ AreInOne mesh cut t x
-
-  beside_more : (x y : ℕ) → Beside x → AreInOne mesh cut x y → Beside y
-  beside_more x y (inl a) b = inl (links_join laws cut s x y a b)
-  beside_more x y (inr a) b = inr (links_join laws cut t x y a b)
-
-  -- What was linked is linked.
-  joined_less : (x y : ℕ) → x < mesh.count → AreInOne mesh cut x y → AreInOne mesh rest x y
-  joined_less x y l a = (a.0, links_less laws without x y a.0 l a.1)
-
-  along : {c : ℕ} → IsWholeSide mesh cut c n → (k : ℕ) → k < n → AreInOne mesh cut c (easts mesh c k)
-  along {c} side k l = let g = grid_on laws full side in linked_in laws full g.1 (easts mesh c k) (0, search rules)
-
-  beside_on : (x : ℕ) → IsOnArc mesh s t n x → Beside x
-  beside_on x (k, l, inl e) = inl (rw e (along arc.glued.near k l))
-  beside_on x (k, l, inr e) = inr (rw e (along arc.glued.far k l))
-
-  -- Its two patches are linked then.
-  both : AreInOne mesh rest s t
-  both =
-      let last : n - 1 < n = omega arith in
-      let across = arc.glued.across 0 (n - 1) (omega arith) in
-      let gone = without.gone s (0, arc.glued.near.some, inl refl) in
-      let back = linked_back laws full t _ arc.glued.far.corner.0 (along arc.glued.far _ last) in
-      links_join laws _ s _ t (step_over laws _ s s _ (0, refl) gone across)
-      (joined_less _ t (on_low laws full arc.glued _ (n - 1, last, inr refl)) back)
-
-  -- What is linked then was linked, or lies beside the arc.
-  linked_or : (x y m : ℕ) → x < mesh.count → Links mesh rest x y m → AreInOne mesh cut x y ⊎ (Beside x × Beside y)
-  linked_or x y zero l a = inl (0, a)
-  linked_or x y (suc m) l a =
-      let c = a.0 in
-      let lc = links_low laws rest x a.0 m l a.1 in
-      let was = linked_or x a.0 m l a.1 in
-      let more : AreInOne mesh cut a.0 y → AreInOne mesh cut x y ⊎ (Beside x × Beside y) = λ b. elim was
-      [ inl z ↦ inl (links_join laws cut x c y z b) | inr p ↦ inr (p.0, beside_more c y p.1 b) ] in
-      elim a.2 [
-        | inl e ↦ more (rw e (step_next laws cut c c (0, refl)))
-        | inr p ↦ elim (on_or_not mesh s t n c) [
-          | inl o ↦
-              let q = on_twin laws full arc.glued c o in
-              let beside_x : Beside x = elim was
-              [ inl z ↦ beside_more c x (beside_on c o) (linked_back laws full x c l z) | inr b ↦ b.0 ] in
-              inr (beside_x, beside_on y (rw (same_Some q.0 y (sym q.1 ∙ p.1)) at q.2))
-          | inr none ↦ more (step_over laws cut c c y (0, refl) (sym (without.kept c lc none) ∙ p.0) p.1)
-        ]
-      ]
+-- A dart of the mesh.
+abbrev Dart : HalfEdges → Type 0
+Dart mesh = (d : ℕ) × (d < mesh.count)
 
 -- Patches of a cut.
 module _ {mesh : HalfEdges} (laws : IsQuadManifold mesh) {cut : Cut} (full : IsCut mesh cut) {face : ℕ → ℕ}
     {ps : List Rectangle} (parts : IsPartition mesh cut face ps) where
   -- The patch of a dart.
-  in_patch : (x : ℕ) → x < mesh.count → (p : ℕ) × (p < length ps) × IsIn mesh ps p x
-  in_patch x l = let (p, i, j, k, low, side) = parts.covers x l in search rules
+  in_patch : (d : Dart mesh) → (p : ℕ) × (p < length ps) × IsIn mesh ps p d.0
+  in_patch d = let (p, i, j, k, low, side) = parts.covers d.0 d.1 in search rules
 
-  pub grid_of : (p : ℕ) → p < length ps → IsGrid mesh cut (patch_at ps p).w (patch_at ps p).h (cell_of (patch_at ps p))
-  grid_of p l = (parts.patch p l).grid
+  abbrev patch_of : Dart mesh → ℕ
+  patch_of d = (in_patch d).0
 
-  -- Its first dart.
-  abbrev pub first_dart : (p : ℕ) → ℕ
-  first_dart p = cell_of (patch_at ps p) 0 0
+  -- Linked darts have one patch, and darts of one patch are linked.
+  same_patch : (d e : Dart mesh) → AreInOne mesh cut d.0 e.0 → patch_of d ≡ patch_of e
+  same_patch d e a = one_place_of laws full parts _ _ d.0 e.0 (in_patch d).1 (in_patch e).1 (in_patch d).2
+      (in_patch e).2 a
 
-  pub first_low : (p : ℕ) → p < length ps → first_dart p < mesh.count
-  first_low p l = (grid_of p l).low 0 0 (grid_of p l).wide (grid_of p l).tall
+  linked : (d e : Dart mesh) → patch_of d ≡ patch_of e → AreInOne mesh cut d.0 e.0
+  linked d e same =
+      let (p, low, there) = in_patch e in
+      let grid = (parts.patch p low).grid in
+      let here = linked_in laws full grid d.0 (rw same at (in_patch d).2) in
+      links_join laws cut d.0 (cell_of (patch_at ps p) 0 0) e.0
+      (linked_back laws full _ d.0 (grid.low 0 0 grid.wide grid.tall) here) (linked_in laws full grid e.0 there)
 
-  pub first_in : (p : ℕ) → p < length ps → IsIn mesh ps p (first_dart p)
-  first_in p l = (0, record { a = 0; b = 0; a_low = (grid_of p l).wide; b_low = (grid_of p l).tall; is = refl })
+  -- Each patch has a dart.
+  some_dart : (p : ℕ) → p < length ps → (d : Dart mesh) × (patch_of d ≡ p)
+  some_dart p low =
+      let g = (parts.patch p low).grid in
+      let d : Dart mesh = (cell_of (patch_at ps p) 0 0, g.low 0 0 g.wide g.tall) in
+      (d, one_place_of laws full parts _ p d.0 d.0 (in_patch d).1 low (in_patch d).2 (first_in laws full g) (0, refl))
 
-  -- Darts in one patch are linked.
-  one_patch : (p x y : ℕ) → p < length ps → IsIn mesh ps p x → IsIn mesh ps p y → AreInOne mesh cut x y
-  one_patch p x y l i j =
-      let linked = linked_in laws full (grid_of p l) in
-      links_join laws cut x (first_dart p) y (search (rules, linked_back, first_low)) (linked y j)
+module _ {mesh : HalfEdges} (laws : IsQuadManifold mesh) {cut rest : Cut} (full : IsCut mesh cut) {face : ℕ → ℕ}
+    {s t n : ℕ} (arc : IsJoinable mesh cut s t n) (without : IsWithout mesh cut rest s t n) {ps qs : List Rectangle}
+    (parts : IsPartition mesh cut face ps) (whole : IsPartition mesh rest face qs) where
+  after : IsCut mesh rest
+  after = join_law mesh cut rest s t n laws full arc without
 
-module _ {mesh : HalfEdges} (laws : IsQuadManifold mesh) {cut rest : Cut} (full : IsCut mesh cut)
-    (after : IsCut mesh rest) {face : ℕ → ℕ} {s t n : ℕ} (arc : IsJoinable mesh cut s t n)
-    (without : IsWithout mesh cut rest s t n) {ps qs : List Rectangle} (parts : IsPartition mesh cut face ps)
-    (whole : IsPartition mesh rest face qs) where
-  -- The patches on both sides of the arc.
-  near : (p : ℕ) × (p < length ps) × IsIn mesh ps p s
-  near = in_patch laws full parts s arc.glued.near.corner.0
+  -- A dart of each of the two patches beside the arc.
+  abbrev near : Dart mesh
+  near = (s, arc.glued.near.corner.0)
 
-  far : (p : ℕ) × (p < length ps) × IsIn mesh ps p t
-  far = in_patch laws full parts t arc.glued.far.corner.0
+  abbrev far : Dart mesh
+  far = (t, arc.glued.far.corner.0)
 
-  abbrev old : (p : ℕ) → ℕ
-  old p = first_dart laws full parts p
+  abbrev old : Dart mesh → ℕ
+  old d = patch_of laws full parts d
 
-  abbrev new : (q : ℕ) → ℕ
-  new q = first_dart laws after whole q
+  abbrev new : Dart mesh → ℕ
+  new d = patch_of laws after whole d
 
-  -- A patch beside the arc is one of the two.
-  beside_is : (p x : ℕ) → p < length ps → IsIn mesh ps p x → Beside laws full arc without x → (p ≡ near.0) ⊎ (p ≡ far.0)
-  beside_is p x l i (inl a) = inl (sym (one_place_of laws full parts near.0 p s x near.1 l near.2 i a))
-  beside_is p x l i (inr a) = inr (sym (one_place_of laws full parts far.0 p t x far.1 l far.2 i a))
+  -- What was linked is linked, and so are the two patches.
+  still_linked : (d e : Dart mesh) → AreInOne mesh cut d.0 e.0 → AreInOne mesh rest d.0 e.0
+  still_linked d e a = (a.0, links_less laws without d.0 e.0 a.0 d.1 a.1)
 
-  -- Old patches but the far one lie in different new ones.
-  new_of : (p : ℕ) → (l : p < length ps) → (q : ℕ) × (q < length qs) × IsIn mesh qs q (old p)
-  new_of p l = in_patch laws after whole (old p) (first_low laws full parts p l)
+  joined : AreInOne mesh rest s t
+  joined =
+      let last : n - 1 < n = omega arith in
+      let x : Dart mesh = (easts mesh t (n - 1), side_low laws full arc.glued.far (n - 1) last) in
+      let back = linked_back laws full t x.0 far.1 (side_linked laws full arc.glued.far (n - 1) last) in
+      let gone = without.gone s (0, arc.glued.near.some, inl refl) in
+      links_join laws rest s x.0 t
+      (step_over laws rest s s x.0 (0, refl) gone (arc.glued.across 0 (n - 1) (omega arith))) (still_linked x far back)
 
-  new_once : (p r : ℕ) (lp : p < length ps) (lr : r < length ps) → p ≢ far.0 → r ≢ far.0
-      → (new_of p lp).0 ≡ (new_of r lr).0 → p ≡ r
-  new_once p r lp lr np nr same =
-      let link : AreInOne mesh rest (old p) (old r) = one_patch laws after whole (new_of p lp).0 (old p) (old r)
-      (new_of p lp).1 (new_of p lp).2 (rw same (new_of r lr).2) in
-      let is_near : (u : ℕ) (l : u < length ps) → u ≢ far.0 → Beside laws full arc without (old u) → u ≡ near.0 = λ u l
-      nu b. elim (beside_is u (old u) l (first_in laws full parts u l) b) [ inl e ↦ e | inr e ↦ absurd (nu e) ] in
-      elim (linked_or laws full arc without (old p) (old r) link.0 (first_low laws full parts p lp) link.1) [
-        | inl a ↦ one_place_of laws full parts p r (old p) (old r) lp lr (first_in laws full parts p lp)
-            (first_in laws full parts r lr) a
-        | inr b ↦ is_near p lp np b.0 ∙ sym (is_near r lr nr b.1)
+  -- The patch of a dart, where the near one stands for the far one.
+  abbrev merged : Dart mesh → ℕ
+  merged d = cond (old d == old far) (old near) (old d)
+
+  merged_same : (d e : Dart mesh) → AreInOne mesh cut d.0 e.0 → merged d ≡ merged e
+  merged_same d e a = ap (λ p. cond (p == old far) (old near) p) (same_patch laws full parts d e a)
+
+  -- It is the near one for each dart of the arc.
+  beside : (d : Dart mesh) → IsOnArc mesh s t n d.0 → merged d ≡ old near
+  beside d (k, l, inl e) =
+      let same = same_patch laws full parts near d (rw e (side_linked laws full arc.glued.near k l)) in
+      grind (arith, nat_tests)
+  beside d (k, l, inr e) =
+      let same = same_patch laws full parts far d (rw e (side_linked laws full arc.glued.far k l)) in
+      grind (arith, nat_tests)
+
+  -- So it stays over each step between linked faces.
+  merged_along : (d e : Dart mesh) (m : ℕ) → Links mesh rest d.0 e.0 m → merged d ≡ merged e
+  merged_along d e zero is = merged_same d e (0, is)
+  merged_along d e (suc m) (b, links, step) =
+      let c : Dart mesh = (b, links_low laws rest d.0 b m d.1 links) in
+      merged_along d c m links ∙ elim step [
+        | inl next ↦ merged_same c e (1, (b, refl, inl next))
+        | inr over ↦ elim (on_or_not mesh s t n b) [
+          | inl o ↦ beside c o ∙ sym (beside e (paired laws full arc.glued b e.0 over.1 o))
+          | inr none ↦ merged_same c e (1, (b, refl, inr (sym (without.kept b c.1 none) ∙ over.0, over.1)))
+        ]
       ]
 
-  -- New patches come from different old ones, where the near one stands for the far one.
-  old_of : (q : ℕ) → q < length qs → (p : ℕ) × (p < length ps) × (p ≢ far.0) × AreInOne mesh rest (old p) (new q)
-  old_of q l =
-      let p = in_patch laws full parts (new q) (first_low laws after whole q l) in
-      let linked : (u y : ℕ) → u < length ps → IsIn mesh ps u y → AreInOne mesh rest (old u) y = λ u y lu j. joined_less
-      laws full arc without (old u) y (first_low laws full parts u lu) (search (rules, one_patch, first_in)) in
-      elim (cases_eq p.0 far.0) [
-        | inl e ↦ (
-          near.0,
-          near.1,
-          λ same. arc.apart (one_patch laws full parts near.0 s t near.1 near.2 (rw same far.2)),
-          links_join laws rest (old near.0) s (new q) (linked near.0 s near.1 near.2) (links_join laws rest s t (new q)
-              (both laws full arc without) (joined_less laws full arc without t (new q) arc.glued.far.corner.0
-              (one_patch laws full parts far.0 t (new q) far.1 far.2 (rw e at p.2)))),
-        )
-        | inr ne ↦ (p.0, p.1, ne, linked p.0 (new q) p.1 p.2)
-      ]
+  -- Darts are told by their old patches. Their new ones, where one more stands for the far one, tell them too.
+  by_old : AreNumbers (λ (d : Dart mesh). Unit {0}) (λ d. old d) (λ p. true) (length ps)
+  by_old = record {
+    each = λ d u. ((in_patch laws full parts d).1, refl);
+    onto = λ p low on. let (d, is) = some_dart laws full parts p low in (d, tt, is);
+  }
 
-  old_once : (q r : ℕ) (lq : q < length qs) (lr : r < length qs) → (old_of q lq).0 ≡ (old_of r lr).0 → q ≡ r
-  old_once q r lq lr same =
-      let p = old_of q lq in
-      let back = linked_back laws after (old p.0) (new q) (first_low laws full parts p.0 p.1) p.3 in
-      one_place_of laws after whole q r (new q) (new r) lq lr (first_in laws after whole q lq)
-      (first_in laws after whole r lr) (links_join laws rest (new q) (old p.0) (new r) back (rw same (old_of r lr).3))
+  abbrev number : Dart mesh → ℕ
+  number d = cond (old d == old far) (length qs) (new d)
 
-  -- So there is one less.
+  by_new : AreNumbers (λ (d : Dart mesh). Unit {0}) (λ d. number d) (λ q. true) (suc (length qs))
+  by_new = record {
+    each = λ d u. (grind (arith, nat_tests, (in_patch laws after whole d).1), refl);
+    onto = λ q low on. elim (cases_lt q (length qs)) [
+      | inr last ↦ (far, tt, grind (arith, nat_tests))
+      | inl l ↦
+          let (d, is) = some_dart laws after whole q l in
+          elim (cases_eq (old d) (old far)) [
+            | inl e ↦
+                let over = still_linked far d (linked laws full parts far d (sym e)) in
+                let same = same_patch laws after whole near d (links_join laws rest s t d.0 joined over) in
+                let other : old near ≢ old far = λ one. arc.apart (linked laws full parts near far one) in
+                (near, tt, grind (arith, nat_tests))
+            | inr other ↦ (d, tt, grind (arith, nat_tests))
+          ]
+    ];
+  }
+
   fewer : length ps ≡ suc (length qs)
-  fewer =
-      let down : passing (λ p. not (p == far.0)) (length ps) ≤ passing (λ q. true) (length qs) = passing_le _
-      (λ q. true) _ _ (λ p l on. ((new_of p l).0, (new_of p l).1, refl)) (search (rules, new_once)) in
-      let up : passing (λ q. true) (length qs) ≤ passing (λ p. not (p == far.0)) (length ps) = passing_le (λ q. true) _
-      _ _ (λ q l on. grind (arith, old_of q l)) (λ q r lq on lr also same. old_once q r lq lr same) in
-      omega (arith, one_less _ _ far.1, passing_all (length qs))
+  fewer = omega (
+    arith,
+    passing_all (length ps),
+    passing_all (suc (length qs)),
+    numbers_le by_old by_new (λ d e x y same.
+        let along : new d ≡ new e → merged d ≡ merged e =
+        λ one. let is = linked laws after whole d e one in merged_along d e is.0 is.1 in
+        grind (arith, nat_tests, along, (in_patch laws after whole d).1, (in_patch laws after whole e).1)),
+    numbers_le by_new by_old (λ d e x y same.
+        let one = same_patch laws after whole d e (still_linked d e (linked laws full parts d e same)) in
+        grind (arith, nat_tests)),
+  )
 
 pub fewer_law : FewerLaw
-fewer_law mesh cut rest face s t n ps qs laws full arc without parts whole =
-    fewer laws full (join_law mesh cut rest s t n laws full arc without) arc without parts whole
+fewer_law mesh cut rest face s t n ps qs laws full arc without parts whole = fewer laws full arc without parts whole

@@ -1,23 +1,18 @@
--- Whole sides of patches: each cut dart lies on one, at one place, and the four of a patch follow each other.
-use Rattle.std.proofs.Common.{◌≡◌, ◌⊎◌, ℕ, zero, suc, ◌+◌, ◌-◌, ◌<◌, true, false, Some, sym, ◌∙◌, ap, refl, inl, inr}
-use Rattle.std.proofs.Common.{rules, true≢false, arith, subst}
+-- Whole sides of patches: a dart lies on one at one place, and the four of a patch begin at its four corners.
+use Rattle.std.proofs.Common.{◌≡◌, ◌⊎◌, ℕ, zero, suc, ◌+◌, ◌-◌, ◌<◌, true, false, Some, ◌∙◌, ap, refl, inl}
+use Rattle.std.proofs.Common.{rules, arith}
 use Rattle.def_mesh.specs.HalfEdges.{HalfEdges, IsQuadManifold}
-use Rattle.def_cut.specs.{Cuts.Cut, Cuts.IsCorner, Cuts.IsCut, Grids.Cells, Grids.IsGrid, Steps.spin, Steps.or_zero}
+use Rattle.def_cut.specs.{Cuts.Cut, Cuts.IsCorner, Cuts.IsCut, Grids.Cells, Grids.IsGrid, Steps.spin}
 use Rattle.def_cut.specs.{Steps.step_east, Steps.easts}
-use Rattle.cut_laws.proofs.Folds.{next_same, twin_same, south_open, spin_next, quarter, quarter_grid}
+use Rattle.cut_laws.proofs.Folds.{twin_same, south_open, west_open, spin_next, quarter, quarter_grid}
 use Rattle.cut_laws.proofs.{Rows.east_twin, Rows.west_off, Rows.row_low, Rows.row_south, Rows.grow, Rows.grown_grid}
-use Rattle.cut_laws.proofs.{Classes.In, Classes.linked_back, Classes.closed, Classes.first_in, Pigeon.same_if}
+use Rattle.cut_laws.proofs.Classes.{In, AreLinked, linked_in}
 use Rattle.{cut_laws.specs.Grown.grown, cut_laws.specs.Grown.IsRow, def_merge.specs.Joins.IsWholeSide}
 
 -- One step on, and then straight on.
 pub easts_front : (mesh : HalfEdges) (d i : ℕ) → easts mesh (step_east mesh d) i ≡ easts mesh d (suc i)
 easts_front mesh d zero = refl
 easts_front mesh d (suc i) = ap (step_east mesh) (easts_front mesh d i)
-
--- The next cell over a link.
-pub east_is : {mesh : HalfEdges} → IsQuadManifold mesh → (d e : ℕ) → mesh.twin (mesh.next d) ≡ Some (mesh.prev e)
-    → step_east mesh d ≡ e
-east_is {mesh} laws d e is = ap (λ o. mesh.next (or_zero o)) is ∙ laws.next_prev e
 
 -- The whole side of size n from c, with dart x at place k.
 pub record StandsOn (mesh : HalfEdges) (cut : Cut) (c n k x : ℕ) : Type 0 where
@@ -30,39 +25,31 @@ abbrev pub IsFirstDart : (mesh : HalfEdges) (w h : ℕ) (cell : Cells) (c : ℕ)
 IsFirstDart mesh w h cell c = (c ≡ cell 0 0) ⊎ ((c ≡ mesh.next (cell (w - 1) 0))
     ⊎ ((c ≡ mesh.next (mesh.next (cell (w - 1) (h - 1)))) ⊎ (c ≡ mesh.next (mesh.next (mesh.next (cell 0 (h - 1)))))))
 
--- A side of a grid on which x stands.
-abbrev pub SideOver : (mesh : HalfEdges) (cut : Cut) (w h : ℕ) (cell : Cells) (x : ℕ) → Type 0
-SideOver mesh cut w h cell x = (c : ℕ) × (n : ℕ) × (k : ℕ) × StandsOn mesh cut c n k x × IsFirstDart mesh w h cell c
-
 module _ {mesh : HalfEdges} (laws : IsQuadManifold mesh) {cut : Cut} (full : IsCut mesh cut) where
-  pub row_of : {s n : ℕ} → IsWholeSide mesh cut s n → IsRow mesh cut s n
-  row_of side = record { wide = side.some; low = side.corner.0; inside = side.inside; ends = side.ends }
+  module _ {s n : ℕ} (side : IsWholeSide mesh cut s n) where
+    row : IsRow mesh cut s n
+    row = record { wide = side.some; low = side.corner.0; inside = side.inside; ends = side.ends }
 
-  pub side_low : {s n : ℕ} → IsWholeSide mesh cut s n → (k : ℕ) → k < n → easts mesh s k < mesh.count
-  side_low {s} {n} side k l = row_low laws full s n (row_of side) k l
+    pub side_low : (k : ℕ) → k < n → easts mesh s k < mesh.count
+    side_low k l = row_low laws full s n row k l
 
-  pub side_on : {s n : ℕ} → IsWholeSide mesh cut s n → (k : ℕ) → k < n → cut (easts mesh s k) ≡ true
-  side_on {s} {n} side k l = row_south laws full s n (row_of side) side.corner.1 k l
+    pub side_on : (k : ℕ) → k < n → cut (easts mesh s k) ≡ true
+    side_on k l = row_south laws full s n row side.corner.1 k l
 
-  pub side_link : {s n : ℕ} → IsWholeSide mesh cut s n → (k : ℕ) → suc k < n
-      → mesh.twin (mesh.next (easts mesh s k)) ≡ Some (mesh.prev (easts mesh s (suc k)))
-  side_link {s} {n} side k l = east_twin laws full (easts mesh s k) (side_low side k (omega arith)) (side.inside k l)
+    pub side_link : (k : ℕ) → suc k < n
+        → mesh.twin (mesh.next (easts mesh s k)) ≡ Some (mesh.prev (easts mesh s (suc k)))
+    side_link k l = east_twin laws full (easts mesh s k) (side_low k (omega arith)) (side.inside k l)
 
-  -- Only its first dart leaves a corner.
-  pub side_before : {s n : ℕ} → IsWholeSide mesh cut s n → (k : ℕ) → suc k < n
-      → cut (mesh.prev (easts mesh s (suc k))) ≡ false
-  side_before {s} {n} side k l = west_off laws full (easts mesh s k) (side_low side k (omega arith)) (side.inside k l)
+    -- Only its first dart leaves a corner.
+    pub side_before : (k : ℕ) → suc k < n → cut (mesh.prev (easts mesh s (suc k))) ≡ false
+    side_before k l = west_off laws full (easts mesh s k) (side_low k (omega arith)) (side.inside k l)
 
-  pub first_place : {s n : ℕ} → IsWholeSide mesh cut s n → (k : ℕ) → k < n → cut (mesh.prev (easts mesh s k)) ≡ true
-      → k ≡ 0
-  first_place side zero l on = refl
-  first_place side (suc k) l on = absurd (cc (side_before side k l))
+    pub first_place : (k : ℕ) → k < n → cut (mesh.prev (easts mesh s k)) ≡ true → k ≡ 0
+    first_place zero l on = refl
+    first_place (suc k) l on = absurd (cc (side_before k l))
 
-  pub side_from : {s n : ℕ} → IsWholeSide mesh cut s n → (k : ℕ) → suc k < n
-      → mesh.from (easts mesh s (suc k)) ≡ mesh.from (mesh.next (easts mesh s k))
-  side_from {s} {n} side k l = ap mesh.from (sym (laws.next_prev (easts mesh s (suc k))))
-      ∙ (laws.twin_ends (mesh.next (easts mesh s k)) (mesh.prev (easts mesh s (suc k)))
-      (laws.next_low (easts mesh s k) (side_low side k (omega arith))) (side_link side k l)).1
+    pub side_from : (k : ℕ) → suc k < n → mesh.from (easts mesh s (suc k)) ≡ mesh.from (mesh.next (easts mesh s k))
+    side_from k l = search (rules, side_link k l, side_low k)
 
   -- Sides with a dart in common are one.
   pub one_place : {s n r m : ℕ} (k j : ℕ) → IsWholeSide mesh cut s n → IsWholeSide mesh cut r m → k < n → j < m
@@ -75,12 +62,8 @@ module _ {mesh : HalfEdges} (laws : IsQuadManifold mesh) {cut : Cut} (full : IsC
       let ly = laws.next_low _ (side_low two j (omega arith)) in
       search (rules, twin_same laws, side_link one k lk, side_link two j lj, one_place k j one two)
 
-  shorter : {s : ℕ} (n : ℕ) {m : ℕ} → IsWholeSide mesh cut s n → IsWholeSide mesh cut s m → n < m → ⊥
-  shorter zero one two l = absurd (omega arith)
-  shorter (suc k) one two l = true≢false (sym (one.ends k refl) ∙ two.inside k (omega arith))
-
   pub one_size : {s n m : ℕ} → IsWholeSide mesh cut s n → IsWholeSide mesh cut s m → n ≡ m
-  one_size {n} {m} one two = same_if (shorter n one two) (shorter m two one)
+  one_size {n} {m} one two = grind (arith, one.ends (n - 1), two.inside (n - 1), two.ends (m - 1), one.inside (m - 1))
 
   -- The grid that stands on a whole side.
   pub grid_on : {s n : ℕ} → IsWholeSide mesh cut s n → (h : ℕ) × IsGrid mesh cut n h (grown mesh s)
@@ -88,6 +71,12 @@ module _ {mesh : HalfEdges} (laws : IsQuadManifold mesh) {cut : Cut} (full : IsC
       let g = grow laws full s side.corner in
       let other : IsWholeSide mesh cut s g.0 = search rules in
       let same = one_size other side in (g.1, rw same at (grown_grid laws full s g.0 g.1 side.corner g.2))
+
+  -- Its darts are of one class.
+  pub side_linked : {s n : ℕ} → IsWholeSide mesh cut s n → (k : ℕ) → k < n → AreLinked mesh cut s (easts mesh s k)
+  side_linked {s} side k l =
+      let grid = (grid_on side).1 in
+      linked_in laws full grid (easts mesh s k) (0, record { a = k; b = 0; a_low = l; b_low = grid.tall; is = refl })
 
   -- The sides of a grid: each is the south side of the grid turned by as many quarters.
   module _ {w h : ℕ} {cell : Cells} (grid : IsGrid mesh cut w h cell) where
@@ -126,49 +115,24 @@ module _ {mesh : HalfEdges} (laws : IsQuadManifold mesh) {cut : Cut} (full : IsC
     pub north_side : IsWholeSide mesh cut (mesh.next (mesh.next (cell (w - 1) (h - 1)))) w
     north_side = south_side half_grid
 
-    zero_is : w - suc (w - 1) ≡ 0
-    zero_is = omega arith
-
     pub along_west : (k j : ℕ) → k + suc j ≡ h → easts mesh (mesh.next (mesh.next (mesh.next (cell 0 (h - 1))))) k
         ≡ mesh.next (mesh.next (mesh.next (cell 0 j)))
-    along_west k j e =
-        let same : h - suc k ≡ j = omega arith in
-        ap (λ x. easts mesh (mesh.next (mesh.next (mesh.next (cell x (h - 1))))) k) (sym zero_is)
-        ∙ along_south (quarter_grid laws full half_grid) k (omega arith) ∙ cc (same, zero_is)
+    along_west k j e = grind (arith, along_south (quarter_grid laws full half_grid) k)
 
     pub west_side : IsWholeSide mesh cut (mesh.next (mesh.next (mesh.next (cell 0 (h - 1))))) h
     west_side = grind (arith, south_side (quarter_grid laws full half_grid))
 
-  -- A cut dart of a grid stands on one of them.
-  stands_at : (q : ℕ) {w h : ℕ} {cell : Cells} → IsGrid mesh cut w h cell → (i j : ℕ) {x : ℕ} → i < w → j < h
-      → x ≡ spin mesh q (cell i j) → cut x ≡ true → SideOver mesh cut w h cell x
-  stands_at zero {w} {h} {cell} grid i zero li lj e on = grind (arith, south_side grid, along_south grid i li)
-  stands_at zero grid i (suc j) li lj e on = absurd (cc (south_open laws full grid i j li lj))
-  stands_at (suc q) {w} {h} {cell} grid i j li lj e on =
+  -- A corner of a grid is the first dart of one of them.
+  corner_at : (q : ℕ) {w h : ℕ} {cell : Cells} → IsGrid mesh cut w h cell → (i j : ℕ) {x : ℕ} → i < w → j < h
+      → x ≡ spin mesh q (cell i j) → IsCorner mesh cut x → IsFirstDart mesh w h cell x
+  corner_at zero grid zero zero li lj e corner = inl e
+  corner_at zero grid (suc i) j li lj e corner = absurd (cc (west_open laws full grid i j li lj, corner.2))
+  corner_at zero grid i (suc j) li lj e corner = absurd (cc (south_open laws full grid i j li lj, corner.1))
+  corner_at (suc q) {w} {h} {cell} grid i j li lj e corner =
       let same : w - suc (w - suc i) ≡ i = omega arith in
-      search (
-        rules,
-        quarter_first,
-        stands_at q (quarter_grid laws full grid) j (w - suc i) lj (omega arith)
-            (cc (same, spin_next laws q (cell i j))) on,
-      )
+      quarter_first grid (corner_at q (quarter_grid laws full grid) j (w - suc i) lj (omega arith)
+      (cc (same, spin_next laws q (cell i j))) corner)
 
-  module _ {w h : ℕ} {cell : Cells} (grid : IsGrid mesh cut w h cell) where
-    pub stands_in : (x : ℕ) → In mesh w h cell x → cut x ≡ true → SideOver mesh cut w h cell x
-    stands_in x i on = stands_at i.0 grid i.1.a i.1.b i.1.a_low i.1.b_low i.1.is on
-
-    -- So a corner is the first dart of one.
-    pub corner_in : (x : ℕ) → In mesh w h cell x → IsCorner mesh cut x → IsFirstDart mesh w h cell x
-    corner_in x i corner =
-        let o = stands_in x i corner.1 in
-        grind (arith, first_place o.3.side o.2 o.3.low)
-
-  -- Each cut dart stands on a whole side.
-  pub stands : (x : ℕ) → x < mesh.count → cut x ≡ true → (c : ℕ) × (n : ℕ) × (k : ℕ) × StandsOn mesh cut c n k x
-  stands x l on =
-      let f = full.corner x l in
-      let back = linked_back laws full x f.0 l (f.1, f.2) in
-      let g = grow laws full f.0 f.3 in
-      let grid = grown_grid laws full f.0 g.0 g.1 f.3 g.2 in
-      let o = stands_in grid x (closed laws full grid f.0 x back.0 back.1 (first_in laws full grid)) on in
-      (o.0, o.1, o.2, o.3)
+  pub corner_in : {w h : ℕ} {cell : Cells} → IsGrid mesh cut w h cell → (x : ℕ) → In mesh w h cell x
+      → IsCorner mesh cut x → IsFirstDart mesh w h cell x
+  corner_in grid x i corner = corner_at i.0 grid i.1.a i.1.b i.1.a_low i.1.b_low i.1.is corner

@@ -1,4 +1,2 @@
-use Rattle.merge_laws.proofs.Joins.{join_law}
-
 pub returns : Rattle.merge_laws.proofs.join_law.Goals.returns
-returns c = join_law
+returns c = Rattle.merge_laws.proofs.Joins.join_law

@@ -1,4 +1,2 @@
-use Rattle.merge_laws.proofs.Beside.{one_merged_law}
-
 pub returns : Rattle.merge_laws.proofs.one_merged_law.Goals.returns
-returns c = one_merged_law
+returns c = Rattle.merge_laws.proofs.Beside.one_merged_law
