@@ -7,7 +7,7 @@ use Rattle.std.specs.{Char.is_ascii_digit, List.list_all, List.position_or_len, 
 use Rattle.def_certtext.specs.Settings.{AreInRange, AreWordsOf, IsFloor, floor_text, scale_text, weight_text}
 use Rattle.qm_certtext.specs.Cuts.{IsCut, asked_line, is_bare}
 use Rattle.qm_dec.proofs.ReadBack.{decimal_digits, digit_other, digits_fail, first_at, above_is, below_is}
-use Rattle.def_flow.specs.{declared.net.Settings.Settings, declared.net.Weight.Weight}
+use Rattle.def_flow.specs.{declared.net.Settings.Settings}
 use Rattle.{std.proofs.lemmas.Fmt.decimal_injective, def_certtext.specs.declared.Asked.Asked}
 use Rattle.{def_certtext.specs.Reading.IsHead, def_text.specs.Types.Word, def_text.specs.Ratio.IsRatio}
 
@@ -125,10 +125,6 @@ head_read line (Some asked) read = record { written = read.1; in_range = read.0 
 
 -- Words say one settings, and begin with no hyphen.
 
-as_ratio : (word : Word) (settings : Settings) (auto : Bool) → word ≡ scale_text settings → AreInRange settings auto
-    → IsRatio word settings.p settings.q
-as_ratio word settings auto is range = search rules
-
 same_ratio : (word : Word) (p q r s : ℕ) → IsRatio word p q → IsRatio word r s → (p ≡ r) × (q ≡ s)
 same_ratio word p q r s one two =
     let below : 47 ∷ decimal q ≡ 47 ∷ decimal s = sym (below_is word p q one) ∙ below_is word r s two in (
@@ -139,9 +135,6 @@ same_ratio word p q r s one two =
 -- A chosen floor is written with no digit.
 not_chosen : (floor : ℕ) → floor ≤ 3 → codes "auto" ≡ decimal floor → ⊥
 not_chosen floor low is = false≢true (ap (list_all is_ascii_digit) is ∙ decimal_digits floor (omega arith))
-
-same_weight : (v w : Weight) → weight_text v ≡ weight_text w → v ≡ w
-same_weight v w h1 = search rules
 
 -- Three words have one settings.
 pub same_settings : (scale floor weight : Word) (s t : Settings) (a b : Bool) → AreWordsOf scale floor weight s a

@@ -1,9 +1,9 @@
 -- The last line that begins with a prefix, found line after line.
 use Rattle.std.proofs.Common.{rules, None, Option, Some, arith, if◌then◌else◌, length, slice_index_or, []}
-use Rattle.std.proofs.Common.{ap, drop, sym, take, true, ℕ, ◌+◌, ◌-◌, ◌<◌, ◌∙◌, ◌≡◌, Bool, List, filter, zero}
+use Rattle.std.proofs.Common.{ap, drop, take, true, ℕ, ◌+◌, ◌-◌, ◌<◌, ◌∙◌, ◌≡◌, Bool, List, filter, zero}
 use Rattle.std.proofs.Common.{◌++◌, map, suc, ◌∷◌, length-drop, ◌^◌}
-use Rattle.std.proofs.{lemmas.Bool.cases_Bool, lemmas.List.Elements.filter-append}
-use Rattle.std.proofs.lemmas.List.{get_or-take, length-take-le, take_more, drop-drop, get_or-drop}
+use Rattle.std.proofs.{lemmas.List.Elements.filter-append}
+use Rattle.std.proofs.lemmas.List.{get_or-take, take_more, drop-drop, get_or-drop}
 use Rattle.std.specs.{List.starts_with, List.list_all, Prelude.IfSome, Prelude.nat_eq}
 use Rattle.qm_certtext.specs.{Heads.IsFoundIn, declared.last.HeadAt.HeadAt, declared.parts.Found.Found}
 use Rattle.qm_certtext.specs.Parts.{HoldSome, IsLineFail, TakesText, Holds, ReadSome}

@@ -1,8 +1,8 @@
 -- The lines of a written text, and what they tell.
-use Rattle.std.proofs.Common.{rules, Bool, List, append_assoc, arith, codes, false, filter, get_or, length, ltb}
-use Rattle.std.proofs.Common.{map, refl, suc, sym, true, zero, ◌++◌, ◌+◌, ◌<◌, ◌^◌, ◌↔◌, ◌∙◌, ◌∷◌, ◌≡◌, [], ap, ℕ}
-use Rattle.std.proofs.lemmas.Bool.{and_from, and_parts, eqb-true, ltb-true}
-use Rattle.def_certtext.specs.Reading.{IsHead, Made, TellCerts, TellHow, certificates_in, is_hash_line, may_stand}
+use Rattle.std.proofs.Common.{rules, Bool, List, append_assoc, arith, codes, false, filter, get_or, length, ltb, map}
+use Rattle.std.proofs.Common.{refl, suc, sym, true, zero, ◌++◌, ◌+◌, ◌<◌, ◌^◌, ◌↔◌, ◌∙◌, ◌∷◌, ◌≡◌, [], ap, ℕ}
+use Rattle.std.proofs.lemmas.Bool.{and_from, eqb-true}
+use Rattle.def_certtext.specs.Reading.{IsHead, Made, TellCerts, TellHow, is_hash_line, may_stand}
 use Rattle.def_certtext.specs.CertLines.{risen, used, Certificates, line_text, text_of, HasUps, lists_of, raised}
 use Rattle.def_certtext.specs.Settings.{AreInRange, IsFloor, floor_text, scale_text, weight_text}
 use Rattle.def_certtext.specs.Laws.{certificate_lines, AreWritable, IsPrintable, WrittenLaw, chosen_lines}
@@ -12,22 +12,24 @@ use Rattle.std.proofs.{lemmas.List.Folds.list_all-append, lemmas.List.length-map
 use Rattle.std.specs.{Char.is_ascii_digit, List.flat_map, List.list_all, List.All, Prelude.decimal}
 use Rattle.def_certtext.specs.{CertLines.risen_by, CertLines.alone, declared.CertLine.CertLine}
 use Rattle.def_certtext.specs.{declared.certs.Rising.Rising, HeadLine.head_line, Risings.third_if}
-use Rattle.def_text.specs.{Canonical.canonical_text, FaceSet.FaceSet, Laws.is_position, Laws.is_quad, Types.Word}
+use Rattle.def_text.specs.{Canonical.canonical_text, FaceSet.FaceSet, Laws.is_quad, Types.Word}
 use Rattle.qm_certtext.proofs.{Chosen.chosen_allowed, Chosen.chosen_certs, Counts.small_parts, Found.filter_append}
 use Rattle.qm_certtext.proofs.{Cutting.asked_words, Cutting.asked_cut, Cutting.same_settings, Telling.all_marked}
 use Rattle.{std.proofs.lemmas.List.Concat.flat_map-append, def_certtext.specs.declared.certs.Round.Round}
 use Rattle.{def_flow.specs.declared.net.Settings.Settings, std.proofs.lemmas.List.Folds.flat_map-map}
 use Rattle.{qm_certtext.specs.RoundLines.round_lines, qm_dec.proofs.ReadBack.decimal_digits, def_io.specs.Bytes.Lines}
 use Rattle.{qm_certtext.specs.RoundLines.HaveUps, qm_certtext.proofs.Telling.one_list, qm_obj.proofs.LawSoup.face_line}
-use Rattle.{qm_obj.proofs.TailLemmas.passes_at, qm_certtext.specs.Cuts.asked_line, def_io.specs.Lines.lines_of}
+use Rattle.{def_certtext.specs.declared.CertLine.TheVariants.Floor, qm_obj.proofs.TailLemmas.passes_at}
+use Rattle.{qm_obj.proofs.TailLemmas.all_from, qm_certtext.specs.Cuts.asked_line, def_io.specs.Lines.lines_of}
 
--- Digits end no line.
-digits_inside : (digits : Word) → list_all is_ascii_digit digits ≡ true → list_all is_inside digits ≡ true
-digits_inside [] all = refl
-digits_inside (d ∷ ds) all = grind (arith, nat_tests, digits_inside ds, all)
+-- A text that ends no line.
+abbrev IsInside : (text : Word) → Type 0
+IsInside text = list_all is_inside text ≡ true
 
+-- Digits end none.
 pub number_inside : (n : ℕ) → n < 2 ^ 64 → list_all is_inside (decimal n) ≡ true
-number_inside n low = digits_inside (decimal n) (decimal_digits n low)
+number_inside n low =
+    all_from is_ascii_digit is_inside (λ b is. grind (arith, nat_tests)) (decimal n) (decimal_digits n low)
 
 pub both_inside : (a b : Word) → list_all is_inside a ≡ true → list_all is_inside b ≡ true → list_all is_inside (a ++ b)
     ≡ true
@@ -40,10 +42,8 @@ line_inside rising line h1 = search (rules, number_inside, small_parts, both_ins
 
 pub lines_inside : (rising : Rising) (said : List CertLine) → list_all (may_stand rising) said ≡ true → (k : ℕ) → k
     < length (map line_text said) → list_all is_inside (get_or (map line_text said) k []) ≡ true
-lines_inside rising [] all k low = absurd (omega arith)
-lines_inside rising (line ∷ said) all zero low = line_inside rising line (and_parts (may_stand rising line) _ all).0
-lines_inside rising (line ∷ said) all (suc k) low =
-    lines_inside rising said (and_parts (may_stand rising line) _ all).1 k (omega arith)
+lines_inside rising said all = each_map IsInside line_text said (Floor 1) []
+    (λ k l. line_inside rising _ (passes_at (may_stand rising) said k (Floor 1) all l))
 
 -- So is a line that ends with settings, as a head line does.
 abbrev pub settings_line : (front : Word) (settings : Settings) (auto : Bool) → Word
@@ -69,10 +69,6 @@ face_line_is face quad low =
     let four = eqb-true _ _ quad in
     line_tame _ _ refl (omega (arith, length-map face vertex_word)) (each_map IsWord vertex_word face 0 []
     (λ k l. grind (arith, passes_at, decimal_word (get_or face k 0 + 1))))
-
--- A text that ends no line.
-abbrev IsInside : (text : Word) → Type 0
-IsInside text = list_all is_inside text ≡ true
 
 mesh_inside : (soup : FaceSet) → IsPrintable soup → (k : ℕ) → k < length (canonical_lines soup)
     → IsInside (get_or (canonical_lines soup) k [])
@@ -108,12 +104,8 @@ pub lines_whole : (head : Word) (rising : Rising) (soup : FaceSet) (said : List 
     → lines_of (head ++ 10 ∷ (canonical_text soup ++ text_of said)) ≡ head ∷ canonical_lines soup ++ map line_text said
 lines_whole head rising soup said inside able allowed =
     ap lines_of (ap (λ (t : Word). head ++ 10 ∷ t) (mesh_and_said soup said) ∙ sym (append_assoc head (10 ∷ []) _))
-    ∙ lines_back (head ∷ canonical_lines soup ++ map line_text said) by_place
-  where
-    by_place : (k : ℕ) → k < length (head ∷ canonical_lines soup ++ map line_text said)
-        → list_all is_inside (get_or (head ∷ canonical_lines soup ++ map line_text said) k []) ≡ true
-    by_place zero low = inside
-    by_place (suc k) low = behind_inside rising soup said able allowed k (omega arith)
+    ∙ lines_back (head ∷ canonical_lines soup ++ map line_text said) (each_both IsInside (head ∷ []) _ []
+    (λ k l. (let first : k ≡ 0 = omega arith in rw first inside)) (behind_inside rising soup said able allowed))
 
 -- Those that are marked.
 pub marked_are : (soup : FaceSet) (said : List CertLine)

@@ -1,7 +1,4 @@
-use Rattle.std.proofs.Common.{rules, append_assoc, refl, ◌∙◌, ◌++◌, ◌≡◌}
-use Rattle.{std.proofs.lemmas.Result.on_ok_weaker, qm_certtext.specs.RoundLines.round_lines}
-use Rattle.def_certtext.specs.CertLines.{cert_lines, certificates_of, lists_of, said_by, text_of, alone}
-use Rattle.def_certtext.specs.Laws.{chosen_lines}
+use Rattle.std.proofs.Common.{rules, append_assoc}
 use Rattle.qm_certtext.proofs.Texts.{round_lines_are, text_both, ups_rounds, ups_used, used_risen}
 use Rattle.qm_certtext.proofs.certs.push_chosen.Goals as goal
 

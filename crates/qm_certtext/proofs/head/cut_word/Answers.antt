@@ -1,6 +1,6 @@
 use Rattle.qm_certtext.proofs.Cutting.{behind_is, not_stripped, prefix_bare, stripped}
-use Rattle.std.proofs.Common.{rules, ◌++◌, sym, ◌∙◌, ap₂, ap, take, ℕ}
-use Rattle.{qm_certtext.specs.Cuts.is_bare, std.proofs.lemmas.List.take-append-drop}
+use Rattle.std.proofs.Common.{rules, ◌∙◌, ap, take, ℕ}
+use Rattle.{qm_certtext.specs.Cuts.is_bare}
 use Rattle.qm_certtext.proofs.head.cut_word.Goals as goal
 
 pub returns-in-Some : goal.returns-in-Some

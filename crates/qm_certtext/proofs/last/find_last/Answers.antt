@@ -1,4 +1,4 @@
-use Rattle.std.proofs.Common.{rules, refl, arith}
+use Rattle.std.proofs.Common.{rules}
 use Rattle.qm_certtext.proofs.Found.{found_old, found_more}
 use Rattle.qm_io.proofs.Cuts.{cut_behind, cut_ended, cut_is, cut_there, lines_few, rest_low, whole_tail}
 use Rattle.qm_certtext.proofs.last.find_last.Goals as goal

@@ -1,9 +1,9 @@
-use Rattle.std.proofs.Common.{rules, None}
-use Rattle.qm_certtext.proofs.Counts.{count_lead, no_count}
+use Rattle.std.proofs.Common.{rules}
+use Rattle.qm_certtext.proofs.Counts.{no_count, no_lead}
 use Rattle.qm_certtext.proofs.numbers.read_count.Goals as goal
 
 pub returns-then-has_leading_zero : goal.returns-then-has_leading_zero
-returns-then-has_leading_zero c n low is = search (rules, count_lead)
+returns-then-has_leading_zero c n low is = search (rules, no_lead)
 
 pub returns-in_default : goal.returns-in_default
 returns-in_default c n low is = search (rules, no_count)

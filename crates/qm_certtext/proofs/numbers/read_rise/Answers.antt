@@ -1,13 +1,12 @@
-use Rattle.std.proofs.Common.{rules, arith, drop, pos, ◌+◌, length, sym, ap, ◌∙◌}
-use Rattle.{std.proofs.lemmas.Bool.eqb-true, def_certtext.specs.declared.certs.Rising.TheVariants.Rounds}
-use Rattle.qm_certtext.proofs.Counts.{no_behind, rise_low, rise_not_zero, rise_parts, rise_read, rise_small}
-use Rattle.qm_certtext.proofs.Counts.{some_behind}
+use Rattle.std.proofs.Common.{rules, arith, pos, length, sym, ap}
+use Rattle.std.proofs.lemmas.Bool.{eqb-true}
+use Rattle.qm_certtext.proofs.Counts.{both_read, rise_not_zero, rise_parts}
 use Rattle.qm_certtext.proofs.numbers.read_rise.Goals as goal
 
 pub returns-then-is_empty : goal.returns-then-is_empty
-returns-then-is_empty c rise may = no_behind c.find_byte.ensures.exact c.split_at.ensures.front c.split_at.ensures.back
-    (eqb-true (length c.split_at.result.1.now) 0 (sym c.if-is_empty.ensures)) (pos (rise.arc + 1)) rise.floor
-    (rise_small Rounds rise may)
+returns-then-is_empty c rise may is =
+    let parts = rise_parts c.find_byte.ensures.exact c.split_at.ensures.front c.split_at.ensures.back rise may is in
+    omega (arith, ap length parts.1, eqb-true (length c.split_at.result.1.now) 0 (sym c.if-is_empty.ensures))
 
 pub returns-in_default : goal.returns-in_default
 returns-in_default c rise may is =
@@ -15,10 +14,12 @@ returns-in_default c rise may is =
     search rules
 
 pub returns-in-Some-read_count : goal.returns-in-Some-read_count
-returns-in-Some-read_count c = rise_read c.find_byte.ensures.exact c.split_at.ensures.front c.split_at.ensures.back
-    c.behind_first.result.now c.in-Some-read_count.number c.in-Some.floor (some_behind c.split_at.result.1.now
-    c.if-is_empty.ensures) c.behind_first.ensures c.if-number-gt0.true c.in-Some-read_count.ensures.0
-    c.in-Some-read_count.ensures.1 (omega (arith, c.in-Some.ensures.0, c.from.ensures)) c.in-Some.ensures.1
+returns-in-Some-read_count c =
+    grind (
+      arith,
+      both_read c.find_byte.ensures.exact c.split_at.ensures.front c.split_at.ensures.back
+          c.behind_first.result.now (pos c.in-Some-read_count.number) c.in-Some.floor,
+    )
 
 pub returns-in_default-read_count : goal.returns-in_default-read_count
 returns-in_default-read_count c = rise_not_zero c.find_byte.ensures.exact c.split_at.ensures.front

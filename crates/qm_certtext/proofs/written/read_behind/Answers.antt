@@ -1,4 +1,4 @@
-use Rattle.std.proofs.Common.{rules, arith, refl, [], ◌+◌, ◌-◌, ◌≡◌}
+use Rattle.std.proofs.Common.{rules, arith, ◌+◌, ◌-◌, ◌≡◌}
 use Rattle.qm_certtext.proofs.{Chosen.holds_none, Found.behind_fail, Found.read_next, Found.hold_none}
 use Rattle.qm_io.proofs.Cuts.{cut_behind, cut_is, cut_there, whole_tail}
 use Rattle.{def_io.specs.Lines.lines_of, error_laws.proofs.Errors.handed}

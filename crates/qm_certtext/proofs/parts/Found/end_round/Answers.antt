@@ -1,7 +1,7 @@
-use Rattle.std.proofs.Common.{rules, ap, arith, length, sym, ◌<◌, ◌∙◌}
-use Rattle.{std.proofs.lemmas.Bool.eqb-false, qm_certtext.specs.Parts.lists_in_parts}
-use Rattle.{qm_certtext.specs.declared.parts.Found.Found, qm_certtext.proofs.Chosen.holds_none}
-use Rattle.{qm_certtext.proofs.Chosen.ends_some, std.specs.Vec.vec_len, def_certtext.specs.declared.certs.Round.Round}
+use Rattle.std.proofs.Common.{rules, ap, arith, length, sym, ◌<◌}
+use Rattle.{std.proofs.lemmas.Bool.eqb-false}
+use Rattle.{qm_certtext.specs.declared.parts.Found.Found}
+use Rattle.{qm_certtext.proofs.Chosen.ends_some, def_certtext.specs.declared.certs.Round.Round}
 
 pub returns : Rattle.qm_certtext.proofs.parts.Found.end_round.Goals.returns
 returns c =
