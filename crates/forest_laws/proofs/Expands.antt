@@ -7,10 +7,10 @@ use Rattle.def_forest.specs.Forests.{Forest, IsTight, IsOutermost, walk, ring_su
 use Rattle.def_forest.specs.{Valid.AreOutermost, Valid.IsInner, Valid.IsJoint, Valid.IsMate, Valid.IsNested}
 use Rattle.def_forest.specs.{Valid.IsRing, Valid.IsTree, Valid.IsValid, Darts.Darts, Darts.AreDarts, Darts.far}
 use Rattle.def_forest.specs.{Ways.dart_or, Opened.Opening, Opened.IsOpening, Opened.IsOpened}
-use Rattle.def_forest.specs.declared.kinds.Label.TheVariants.{Outer, Outside}
+use Rattle.def_forest.specs.declared.kinds.Label.TheVariants.{Outer}
 use Rattle.forest_laws.proofs.Shifts.{ChangesOnly, same_feasible, same_joint, same_nested, same_ring}
 use Rattle.forest_laws.proofs.Shifts.{same_tight as tight_stays}
-use Rattle.forest_laws.proofs.Grows.{some_is, far_low, far_twin, tight_twin, tree_valid, IsInOrder}
+use Rattle.forest_laws.proofs.Grows.{far_low, far_twin, tight_twin, tree_valid, IsInOrder}
 
 -- A number is even or odd.
 pub halves : (j : ℕ) → ((i : ℕ) × (j ≡ 2 * i)) ⊎ ((i : ℕ) × (j ≡ 2 * i + 1))
@@ -40,11 +40,8 @@ module _ {g : Darts} {f : Forest} {r : ℕ} {new : Forest} {o : Opening} (opened
   abbrev pub b : ℕ
   b = o.b
 
-  pub b_named : f.label b ≢ Outside
-  b_named off = cc opening.label
-
   b_top : f.nest.up b ≡ b
-  b_top = let w = valid.outermost.named b b_named in rw w.2 at (valid.outermost.tops w.0 w.1)
+  b_top = search rules
 
   -- A blossom with vertices of its own is no part.
   pub out_not_part : (v : ℕ) → v < g.n → f.out v ≢ b → f.nest.up (f.out v) ≢ b
@@ -82,12 +79,10 @@ module _ {g : Darts} {f : Forest} {r : ℕ} {new : Forest} {o : Opening} (opened
 
   -- The ends of the darts between parts.
   begins : (j : ℕ) → j < 2 * o.half → new.out (g.near (o.e j)) ≡ o.q j
-  begins j l = let on = opening.begins j l in
-      out_in (g.near (o.e j)) (are.near_low (o.e j) (opening.tight j l).low) on.0 ∙ on.1
+  begins j l = grind (arith, opening.begins j l, out_in (g.near (o.e j)) (are.near_low (o.e j) (opening.tight j l).low))
 
   ends : (j k : ℕ) → j < 2 * o.half → k ≡ j + 1 → new.out (far g (o.e j)) ≡ o.q k
-  ends j k l e = let on = opening.ends j l in
-      out_in (far g (o.e j)) (far_low g are (o.e j) (opening.tight j l).low) on.0 ∙ on.1 ∙ ap o.q (sym e)
+  ends j k l e = grind (arith, opening.ends j l, out_in (far g (o.e j)) (far_low g are (o.e j) (opening.tight j l).low))
 
   b_pair : IsMate g f b o.m
   b_pair = valid.matched b o.m opening.mate
@@ -97,9 +92,8 @@ module _ {g : Darts} {f : Forest} {r : ℕ} {new : Forest} {o : Opening} (opened
 
   -- The mate of b leaves part 0, and the dart from the part before ends in any other.
   named_part : (j : ℕ) → j ≤ 2 * o.half → IsOutermost g.n new (o.q j)
-  named_part zero l = (g.near o.m, are.near_low o.m b_pair.tight.low, m_at)
-  named_part (suc k) l =
-      (far g (o.e k), far_low g are _ (opening.tight k l).low, ends k (suc k) l (omega arith))
+  named_part zero l = (g.near _, are.near_low _ b_pair.tight.low, m_at)
+  named_part (suc k) l = (far g _, far_low g are _ (opening.tight k l).low, ends k _ l (omega arith))
 
   pub new_outermost : AreOutermost g.n new
   new_outermost = record {
@@ -178,9 +172,6 @@ module _ {g : Darts} {f : Forest} {r : ℕ} {new : Forest} {o : Opening} (opened
   abbrev depths : ℕ → ℕ
   depths x = cond (eqb (f.nest.up x) b) (room * tree.depth b - (place_of x + 1) / 2) (room * tree.depth x)
 
-  depth_old : (x : ℕ) → f.nest.up x ≢ b → depths x ≡ room * tree.depth x
-  depth_old x ne = cond-false _ _ _ (ne_eqb (f.nest.up x) b ne)
-
   depth_part : (j k : ℕ) → j ≤ 2 * o.half → k ≡ (j + 1) / 2 → depths (o.q j) ≡ room * tree.depth b - k
   depth_part j k l e = rw (eq-eqb (f.nest.up (o.q j)) b (opening.parts j l).0, place_is j l, e) refl
 
@@ -204,16 +195,13 @@ module _ {g : Darts} {f : Forest} {r : ℕ} {new : Forest} {o : Opening} (opened
   beyond_mate {d} tight ne = rw (beyond_out tight ne) (is.others (beyond d) (beyond_free tight ne)).mate
 
   beyond_depth : {d : ℕ} → IsTight g f d → beyond d ≢ b → depths (new.out (far g d)) ≡ room * tree.depth (beyond d)
-  beyond_depth {d} tight ne = search (rules, beyond_out, beyond_free, depth_old)
+  beyond_depth {d} tight ne = search (rules, beyond_out, beyond_free)
 
   near_old : {c d : ℕ} → f.nest.up c ≢ b → IsTight g f d → f.out (g.near d) ≡ c → new.out (g.near d) ≡ c
   near_old {c} {d} ne tight here = search (rules, out_old, other_not_b)
 
   b_inner : IsInner g f tree.depth b
   b_inner = tree.inner b opening.label
-
-  b_mate : b_inner.dart ≡ o.m
-  b_mate = some_is b_inner.dart o.m (sym b_inner.mate ∙ opening.mate)
 
   back_begins : (j : ℕ) → j < 2 * o.half → new.out (far g (g.twin (o.e j))) ≡ o.q j
   back_begins j l = ap new.out (far_twin are (o.e j)) ∙ begins j l
@@ -275,7 +263,7 @@ module _ {g : Darts} {f : Forest} {r : ℕ} {new : Forest} {o : Opening} (opened
       let hung = hangs i l in
       let mated : (d : ℕ) × (new.mate (o.q (2 * i)) ≡ Some d) × (new.label (new.out (far g d)) ≡ Outer)
       × (depths (new.out (far g d)) ≡ room * tree.depth b - i) = elim (cases_eq i 0) [
-        | inl z ↦ (let pair = b_pair in let old = b_inner in rw z (search (rules, b_mate, beyond_label, beyond_depth)))
+        | inl z ↦ (let pair = b_pair in let old = b_inner in rw z (search (rules, beyond_label, beyond_depth)))
         | inr nz ↦ (let k = i - 1 in let lt : k < o.half = omega (arith, opening.short) in
             let at : 2 * i ≡ 2 * k + 2 = omega arith in
             let back = back_begins (2 * k + 1) (omega arith) in
@@ -304,18 +292,14 @@ module _ {g : Darts} {f : Forest} {r : ℕ} {new : Forest} {o : Opening} (opened
           let back = back_begins (2 * k + 1) (omega arith) in
           let mate = is.even_mate k (omega arith) in
           search rules)
-      | inr near ↦ rw w.1 (let label = is.inner w.0 near in let inner = inner_part w.0 near in
-          let mates = mate_at (2 * w.0) (omega arith) in search rules)
+      | inr near ↦ grind (arith, is.inner w.0 near, inner_part w.0 near)
     ]
     | inr w ↦ (let i = w.0 in
         let mate = is.odd_mate i (omega (arith, w.1)) in
         let end = ends (2 * i + 1) (2 * (i + 1)) (omega (arith, w.1)) (omega arith) in
         elim (cases_lt i o.turns) [
-          | inl near ↦ rw w.1 (let mates = mate_at (2 * i + 1) (omega (arith, w.1)) in let label = is.outer i near in
-              let next = is.inner (i + 1) (omega arith) in search rules)
-          | inr past ↦ (let label = is.off j (omega (arith, w.1)) l in
-              let next = is.off (2 * (i + 1)) (omega arith) (omega (arith, w.1)) in
-              record { matched = mates; inner = λ e. absurd cc; outer = λ e. absurd cc; outside = λ d _ at_d. cc w.1 })
+          | inl near ↦ grind (arith, is.outer i near, is.inner (i + 1))
+          | inr past ↦ grind (arith, is.off j, is.off (2 * (i + 1)))
         ])
   ]
 
@@ -329,8 +313,7 @@ module _ {g : Darts} {f : Forest} {r : ℕ} {new : Forest} {o : Opening} (opened
       | inl e ↦ inl e
       | inr w ↦ (let pair = valid.matched c w.0 w.1 in let at = twin_at pair in search (rules, beyond_label))
     ]);
-    outside = λ d l mate. (let pair = valid.matched c d (sym kept.mate ∙ mate) in
-        search (rules, beyond_label pair.tight, valid.outside c d));
+    outside = λ d l mate. (grind (arith, valid.matched c d, beyond_label, valid.outside c d));
   }
 
   in_order : (c : ℕ) → IsInOrder g new r depths c

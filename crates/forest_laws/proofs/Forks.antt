@@ -97,8 +97,7 @@ module _ {g : Darts} {f : Forest} {r start top left right : ℕ} (fork : Fork g 
   came_from b (suc k) d x outer l e inner mate =
       let w = on b k outer (omega arith) in
       let up = level_some are valid tree (way b k) w.0 (omega (arith, w.1)) in
-      let pair = valid.matched (way b k) up.0 in
-      (k, refl, grind (arith, far_twin are up.0, tree.inner (way b k)))
+      grind (arith, valid.matched (way b k) up.0, far_twin are up.0, tree.inner (way b k))
 
   -- They meet in an outer blossom: on an inner one both would have come from the blossom to which it is matched.
   top_outer : f.label top ≡ Outer
@@ -122,12 +121,10 @@ module _ {g : Darts} {f : Forest} {r start top left right : ℕ} (fork : Fork g 
   ways_differ i m li lm e = search rules
 
   pub left_differs : (i j : ℕ) → i < j → j ≤ left → way a i ≢ way a j
-  left_differs i j lij lj e = (let from = on a i outer_a (omega (arith, met.x_low)) in
-      let to = on a j outer_a (omega (arith, met.x_low)) in omega (arith, ap level e))
+  left_differs i j lij lj e = grind (arith, on a i outer_a, on a j outer_a)
 
   pub right_differs : (i j : ℕ) → i < j → j < right → way c i ≢ way c j
-  right_differs i j lij lj e = (let from = on c i outer_c (omega (arith, met.y_low)) in
-      let to = on c j outer_c (omega (arith, met.y_low)) in omega (arith, ap level e))
+  right_differs i j lij lj e = grind (arith, on c i outer_c, on c j outer_c)
 
   abbrev at : ℕ → ℕ
   at = ring_at g f a c left

@@ -64,11 +64,6 @@ true_false on off = cc
 pub load_order : (f : Forest) (u v : ℕ) → weight_between f u v ≡ weight_between f v u
 load_order f u v = search rules
 
--- A load with more weight.
-pub load_sum : (f : Forest) (more : ℕ → ℤ) (u v : ℕ) → weight_between (record f { weight = λ b. f.weight b +ℤ more b })
-    u v ≡ weight_between f u v +ℤ total_below (λ b. cond (splits (f.holds b) u v) (more b) (pos 0)) f.size
-load_sum f more u v = total_below_same _ _ f.size (λ b l. grind (arith, ints)) ∙ total_below_sum _ _ f.size
-
 -- The sum of the weights of the blossoms around a vertex.
 abbrev pub potential : (f : Forest) (v : ℕ) → ℤ
 potential f v = total_below (λ b. cond (f.holds b v) (f.weight b) (pos 0)) f.size
@@ -84,7 +79,7 @@ module _ {n : ℕ} {f : Forest} (top : AreOutermost n f) where
   load_within t u v lu lv same =
       let none = total_below_none (λ b. cond (splits (f.holds b) u v) (weight_change (f.label b) t) (pos 0)) f.size
       (λ b l. grind (arith, named_holds b u lu, named_holds b v lv)) in
-      omega (arith, ints, load_sum f (λ b. weight_change (f.label b) t) u v)
+      search (rules, ints, total_below_same, total_below_sum)
 
   -- The load across two outermost blossoms is the sum of the potentials of both ends.
   pub load_across : (u v : ℕ) → u < n → v < n → f.out u ≢ f.out v → weight_between f u v
@@ -190,8 +185,7 @@ module _ {g : Darts} {f : Forest} {label : ℕ → Label} {mate : ℕ → Option
 -- The mates are the same.
 pub own_matched : {g : Darts} {f : Forest} {label : ℕ → Label} {link : ℕ → ℕ} → IsMatched g f
     → IsMatched g (replaced f f.weight label f.mate link)
-own_matched matched b d is = let x = matched b d is in
-    record { tight = same_tight x.tight; here = x.here; other = x.other; back = x.back }
+own_matched matched b d is = grind (arith, matched b d is)
 
 module _ {g : Darts} (are : AreDarts g) {f : Forest} (valid : IsValid g f None) (b : ℕ)
     (outermost : IsOutermost g.n f b) (free : f.mate b ≡ None) where
@@ -232,9 +226,6 @@ module _ (g : Darts) (are : AreDarts g) (f : Forest) (r : ℕ) (valid : IsValid 
 
   label_named : {x : ℕ} {l : Label} → l ≢ Outside → f.label x ≡ l → labels x ≡ l
   label_named {x} named e = same_named f.label Inner Outer x (λ off. named (sym e ∙ off)) ∙ e
-
-  label_inner : labels inn ≡ Inner
-  label_inner = grind (arith, pair.other)
 
   data Place (x : ℕ) : Type 0 where
     is_outer : x ≡ outer → labels x ≡ Outer → Place x
@@ -284,11 +275,7 @@ module _ (g : Darts) (are : AreDarts g) (f : Forest) (r : ℕ) (valid : IsValid 
         | is_other _ _ same ↦ old_inner (sym same ∙ l) (tree.inner x (sym same ∙ l))
       ];
       outer = λ l. elim (place x) [
-        | is_outer at label ↦ inr (
-          g.twin m,
-          ap f.mate at ∙ pair.back,
-          ap labels (ap f.out (far_twin are m) ∙ pair.here) ∙ label_inner,
-        )
+        | is_outer at label ↦ inr (g.twin m, ap f.mate at ∙ pair.back, search (rules, far_twin, pair.other))
         | is_inner at label ↦ absurd cc
         | is_other _ _ same ↦ (let old = tree.outer x (sym same ∙ l) in search (rules, label_named, inner_named))
       ];

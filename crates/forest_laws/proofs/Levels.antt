@@ -7,7 +7,7 @@ use Rattle.def_forest.specs.{Darts.Darts, Darts.AreDarts, Darts.far, Forests.For
 use Rattle.def_forest.specs.{Forests.bool_number, Valid.IsValid, Valid.IsInner, Valid.IsTree, Ways.dart_or}
 use Rattle.def_forest.specs.{Ways.inner_of, Ways.parent_of, Ways.steps_by, Ways.steps, declared.kinds.Label.Label}
 use Rattle.forest_laws.specs.Climbing.{rise_of, above_of, level_of, way_of}
-use Rattle.forest_laws.proofs.Grows.{some_is, option_cases, outer_named, far_twin, named_low, outer_mate}
+use Rattle.forest_laws.proofs.Grows.{option_cases, outer_named, far_twin, named_low, outer_mate}
 use Rattle.{std.specs.Prelude.nat_lt, def_math.specs.Counts.count_below}
 
 -- A blossom of the tree is outer or inner.
@@ -97,10 +97,7 @@ module _ {g : Darts} (are : AreDarts g) {f : Forest} {r : ℕ} (valid : IsValid 
 
   -- A step up from a blossom of the tree.
   pub step_up : (b d : ℕ) → f.label b ≢ Outside → rise_of f b ≡ Some d → IsStep b d
-  step_up b d named rise = elim (tree_cases (f.label b) named) [
-    | inl outer ↦ step_outer b d outer (rw outer at rise)
-    | inr inner ↦ rw (some_is d _ (sym (rw inner at rise))) (step_inner b inner)
-  ]
+  step_up b d named rise = grind (arith, step_outer b d, step_inner b)
 
   -- Where there is none one is at the root.
   pub at_root : (b : ℕ) → f.label b ≢ Outside → rise_of f b ≡ None → (b ≡ r) × (level b ≡ 0)
@@ -125,8 +122,7 @@ module _ {g : Darts} (are : AreDarts g) {f : Forest} {r : ℕ} (valid : IsValid 
   on_way a (suc m) named l =
       let was = on_way a m named (omega (arith, l)) in
       let d = level_some (way a m) was.0 (omega (arith, was.1)) in
-      let step = step_up (way a m) d.0 was.0 d.1 in
-      (step.named, omega (arith, was.1, step.lower))
+      grind (arith, step_up (way a m) d.0 was.0 d.1)
 
   -- The step up from a place on a way.
   pub way_step : (a m : ℕ) → f.label a ≢ Outside → m < level a → IsStep (way a m) (dart_or (rise_of f (way a m)))

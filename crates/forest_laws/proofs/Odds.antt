@@ -144,8 +144,7 @@ module _ (g : Darts) (are : AreDarts g) (f : Forest) (nested : IsNested g f) (ve
       let swapped = counts_swapped (λ x p. part p x) f.size f.size in
       let sets = count_below_le (λ p. count_below (part p) f.size) inner f.size (λ p l. one_set p) in
       let more = count_below_le (λ p. inner p + tops p) used f.size each in
-      let sum = count_below_sum inner tops f.size in
-      omega (arith, count_low g.n f.size)
+      search (rules, count_below_sum inner tops f.size, count_low g.n f.size)
 
   inner_low : (p : ℕ) → inner p ≤ used p
   inner_low p = search rules

@@ -1,5 +1,5 @@
 -- What stays where only a set of weight 0 holds other vertices and has other parts than before.
-use Rattle.std.proofs.Common.{◌≡◌, ◌≢◌, ℕ, zero, suc, ◌<◌, ◌≤◌, false, cond, ℤ, pos, refl, sym, ◌∙◌, ap, subst, inl}
+use Rattle.std.proofs.Common.{◌≡◌, ◌≢◌, ℕ, zero, suc, ◌<◌, ◌≤◌, false, cond, ℤ, pos, refl, sym, ◌∙◌, ap, inl}
 use Rattle.std.proofs.Common.{inr, arith, Bool, true, eqb, Option, Some, ◌+ℤ◌, ◌-ℤ◌, rules}
 use Rattle.std.proofs.lemmas.{Bool.cases_eq, Bool.eq-eqb, Bool.ne_eqb, Int.ints}
 use Rattle.sum_laws.proofs.Sums.{total_below_same, total_below_sum, total_below_minus, total_below_none}
@@ -9,7 +9,7 @@ use Rattle.def_forest.specs.Valid.{IsFeasible, IsNested, IsRing, IsJoint, IsTree
 use Rattle.def_forest.specs.declared.kinds.Label.TheVariants.{Outer, Inner, Outside}
 use Rattle.def_forest.specs.{Darts.Darts, Darts.AreDarts, Darts.far, Opened.KeepsParts, Steps.weight_change}
 use Rattle.def_forest.specs.{Steps.shifted, Ways.inner_of, Ways.dart_or, declared.kinds.Label.Label}
-use Rattle.forest_laws.proofs.Grows.{inner_named, label_cases, outer_cases, outer_named, far_low, far_twin, inner_mate}
+use Rattle.forest_laws.proofs.Grows.{inner_named, label_cases, outer_cases, outer_named, far_twin, inner_mate}
 use Rattle.forest_laws.proofs.Grows.{named_low, outer_mate, load_apart, load_within, nest_stays}
 use Rattle.def_math.specs.Sums.{total_below}
 
@@ -36,9 +36,7 @@ module _ {g : Darts} (are : AreDarts g) {f new : Forest} {b : ℕ} (changed : Ch
   open changed use {size, weight, holds, sets}
 
   pub same_load : (u v : ℕ) → u < g.n → v < g.n → weight_between new u v ≡ weight_between f u v
-  same_load u v lu lv =
-      let sum : ℕ → ℤ = λ s. weight_between (record new { size = s }) u v in
-      ap sum size ∙ total_below_same _ _ f.size (search rules)
+  same_load u v lu lv = grind arith
 
   pub same_tight : {d : ℕ} → IsTight g f d → IsTight g new d
   same_tight {d} tight = search rules
@@ -55,18 +53,7 @@ module _ {g : Darts} (are : AreDarts g) {f new : Forest} {b : ℕ} (changed : Ch
   -- The ring of another set stays, where its parts do and no part comes.
   pub same_ring : {c : ℕ} → c ≢ b → IsRing g f c → ((p : ℕ) → f.nest.up p ≡ c → p ≢ c → StaysOn p)
       → ((p : ℕ) → new.nest.up p ≡ c → p ≢ c → f.nest.up p ≡ c) → IsRing g new c
-  same_ring {c} ne ring stays back = record {
-    half = ring.half;
-    some = ring.some;
-    odd = set.many ∙ ring.odd;
-    closed = rw set.many (walks (f.nest.parts c) ∙ ring.closed ∙ sym set.head);
-    inside = λ k. rw (walks k) ((old k).up ∙ ring.inside k);
-    lower = λ k. rw (walks k, (sets (at k) (old k).other).rank, set.rank) (ring.lower k);
-    below = λ k. rw (walks k, size) (ring.below k);
-    distinct = λ i j l h e. ring.distinct i j l (subst (λ n. j < n) set.many h) (sym (walks i) ∙ e ∙ walks j);
-    all = search (rules, walks);
-    shared = search (rules, ring_sum_same, walks);
-  }
+  same_ring {c} ne ring stays back = search (rules, walks, ring_sum_same)
     where
       set : KeepsParts f new c
       set = sets c ne
@@ -110,12 +97,11 @@ module _ {g : Darts} (are : AreDarts g) {f : Forest} {root : Option ℕ} (valid 
   still_tight : {d : ℕ} → IsTight g f d
       → (f.out (g.near d) ≢ f.out (far g d) → weight_change (f.label (f.out (g.near d))) t +ℤ weight_change
       (f.label (f.out (far g d))) t ≡ pos 0) → IsTight g (shifted f t) d
-  still_tight {d} tight none =
-      let near = are.near_low d tight.low in
-      let end = far_low g are d tight.low in
-      let inner = load_within valid.outermost t (g.near d) (far g d) near end in
-      let apart = load_apart valid.outermost t (g.near d) (far g d) near end in
-      grind (arith, ints, cases_eq (f.out (g.near d)) (f.out (far g d)), none, tight)
+  still_tight {d} tight none = grind (
+    arith,
+    load_within valid.outermost t (g.near d) (far g d),
+    load_apart valid.outermost t (g.near d) (far g d),
+  )
 
   shifted_tree : {r : ℕ} → IsTree g f r → IsTree g (shifted f t) r
   shifted_tree tree = record {
@@ -195,8 +181,7 @@ module _ {g : Darts} (are : AreDarts g) {f : Forest} {r : ℕ} (valid : IsValid 
   child_outer {c} inner = ap f.label (child_is inner) ∙ (tree.inner c inner).child
 
   child_mate : {c : ℕ} (inner : f.label c ≡ Inner) → f.mate (inner_of g f c) ≡ Some (g.twin (tree.inner c inner).dart)
-  child_mate {c} inner = let is = tree.inner c inner in
-      ap f.mate (child_is inner) ∙ (valid.matched c is.dart is.mate).back
+  child_mate {c} inner = search (rules, tree.inner c inner, valid.matched c)
 
   pair_none : {b c : ℕ} → (f.label c ≡ Inner → inner_of g f c ≡ b → ⊥) → pair_at b c ≡ pos 0
   pair_none {b} {c} off = grind (arith, ints)
@@ -209,17 +194,15 @@ module _ {g : Darts} (are : AreDarts g) {f : Forest} {r : ℕ} (valid : IsValid 
       | inl e ↦ (let none = total_below_none (pair_at b) f.size (λ c lc. pair_none
           (λ inner at. cc (child_mate inner, tree.root_free))) in
           omega (arith, ints, hit_same r b e))
-      | inr w ↦ (let c0 = f.out (far g w.0) in
-          let pair = valid.matched b w.0 w.1 in
-          let back = ap (λ o. f.out (far g (dart_or o))) pair.back ∙ ap f.out (far_twin are w.0) ∙ pair.here in
-          let one = total_below_one (pair_at b) f.size c0 (named_low are valid (inner_named w.2)) (λ c lc ne. pair_none
-          (λ inner at. (let is = tree.inner c inner in
-          ne (cc (child_mate inner, w.1, are.twin_twin is.dart, (valid.matched c is.dart is.mate).here))))) in
+      | inr w ↦ (let c0 = f.out _ in
+          let pair = valid.matched b _ w.1 in
+          let back = ap (λ o. f.out (far g (dart_or o))) pair.back ∙ ap f.out (far_twin are _) ∙ pair.here in
+          let one = total_below_one (pair_at b) _ c0 (named_low are valid (inner_named w.2)) (λ c lc ne. pair_none
+          (λ inner at. (search (rules, valid.matched c)))) in
           search (rules, hit_same, inner_of, hit_other))
     ])
-    | inr ne ↦ (let none = total_below_none (pair_at b) f.size (λ c lc. pair_none
-        (λ inner at. ne (sym (ap f.label at) ∙ child_outer inner))) in
-        omega (arith, ints, change_off (f.label b) ne, hit_other r b (λ e. ne (ap f.label e ∙ tree.root_outer))))
+    | inr ne ↦ (let none = total_below_none (pair_at b) f.size (search (rules, child_outer)) in
+        omega (arith, ints, change_off _ ne, hit_other r b (λ e. ne (ap f.label e ∙ tree.root_outer))))
   ]
     where
       change_off : (l : Label) → l ≢ Outer → weight_change l t +ℤ cond (is_inner l) t (pos 0) ≡ pos 0

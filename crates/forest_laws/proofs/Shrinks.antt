@@ -1,4 +1,5 @@
 -- A shrink keeps a forest valid: a cycle of tight darts in its tree becomes one outer blossom.
+use Rattle.std.proofs.lemmas.Grind.{common_steps}
 use Rattle.std.proofs.Common.{rules, ◌≡◌, ◌≢◌, ℕ, suc, ◌<◌, ◌≤◌, Bool, true, false, cond, eqb, Some, refl, sym}
 use Rattle.std.proofs.Common.{◌∙◌, ap, inl, inr, arith}
 use Rattle.std.proofs.lemmas.Bool.{cases_Bool, false_from_ne_true, eq-eqb, ne_eqb}
@@ -97,8 +98,7 @@ module _ {g : Darts} {f : Forest} {r : ℕ} {new : Forest} {inside : ℕ → Boo
   -- The ring of another set, and the new ring.
   ring_old : {c : ℕ} → c ≢ b → IsRing g f c → IsRing g new c
   ring_old {c} ne ring = same_ring are changes ne ring
-      (λ p up inner. (let off = false_from_ne_true (inside p) (λ on. (let w = marked_out p on in
-      inner (sym (rw w.2 at (valid.outermost.tops w.0 w.1)) ∙ up))) in
+      (λ p up inner. (let off = false_from_ne_true (inside p) (λ on. (search (rules, marked_out p on))) in
       search (rules, up_off, is.after))) (search (rules, up_off))
 
   ring_new : IsRing g new b
@@ -108,15 +108,10 @@ module _ {g : Darts} {f : Forest} {r : ℕ} {new : Forest} {inside : ℕ → Boo
     odd = parts_b ∙ row.odd;
     closed = rw (parts_b, head_b) row.closed;
     inside = λ k. rw head_b (grind (arith, is.up (at k), row.marked k));
-    lower = λ k. rw (head_b, is.rank (at k) (marked_old (at k) (row.marked k))) (is.ranked (at k) (row.marked k));
-    below = λ k. (let w = marked_out (at k) (row.marked k) in
-        rw (head_b, is.size, ← w.2) (valid.outermost.out_low w.0 w.1));
+    lower = λ k. rw (head_b, is.rank _ (marked_old (at k) (row.marked k))) (is.ranked _ (row.marked k));
+    below = λ k. (search (rules, marked_out (at k) (row.marked k)));
     distinct = λ i j l h. rw head_b (row.distinct i j l (rw parts_b at h));
-    all = λ p up inner. elim (place p) [
-      | is_new e ↦ absurd (inner e)
-      | on_cycle on ↦ rw (parts_b, head_b) (row.all p on)
-      | beside ne off ↦ absurd (unused.around_none p ne (sym (up_off p ne off) ∙ up))
-    ];
+    all = λ p up inner. grind (arith, row.all p, unused.around_none p);
     shared = λ v l. rw (is.holds_new v l, parts_b, head_b) (row.shared v l ∙ ring_sum_same new.nest.after
         new.nest.after (λ p. bool_number (eqb (f.out v) p)) (λ p. bool_number (new.holds p v)) front front many
         (λ k. refl) (λ k. ap bool_number (sym (marked_holds (at k) v l (row.marked k)))));
@@ -145,8 +140,7 @@ module _ {g : Darts} {f : Forest} {r : ℕ} {new : Forest} {inside : ℕ → Boo
 
   pub new_nested : IsNested g new
   new_nested = same_nested are changes valid.nested (λ some. ring_new) (λ v l none. absurd (some_parts none))
-      (λ c ne. ring_old ne) (λ p inner. (let live = valid.nested.live p in let parts = is.parts (f.nest.up p) in
-      grind (arith, place p, is.up p, unused.high, some_parts, unused.around_none p)))
+      (λ c ne. ring_old ne) (λ p inner. search (rules, is.parts (f.nest.up p), is.up p))
       (λ p inner. search (rules, place p, is.up, up_off, joint_new, joint_old))
     where
       some_parts : new.nest.parts b ≢ 0
@@ -189,9 +183,7 @@ module _ {g : Darts} {f : Forest} {r : ℕ} {new : Forest} {inside : ℕ → Boo
       let down = (valid.matched c old.dart old.mate).tight in
       let link = is.link c in let tight = same_tight old.tight in let here = near_off old.tight old.here off in
       let child = outer_after down old.child in
-      let same : depths (new.out (far g old.dart)) ≡ depths c = (let top_is = only_top c old.dart off old.mate in
-      let at_b = set_here tree.depth b (tree.depth top) in
-      grind (arith, cases_Bool (inside (f.out (far g old.dart))), beyond_on down, beyond_off)) in
+      let same : depths (new.out (far g old.dart)) ≡ depths c = search (rules, only_top, beyond_on, beyond_off) in
       search rules
 
   -- The new blossom, and one beside the cycle.
@@ -232,8 +224,7 @@ module _ {g : Darts} {f : Forest} {r : ℕ} {new : Forest} {inside : ℕ → Boo
   in_order : (c : ℕ) → IsInOrder g new (cond (inside r) b r) depths c
   in_order c = elim (place c) [
     | is_new e ↦ rw e order_new
-    | on_cycle on ↦ (let label = label_on c on in
-        let mate = rw (ne_eqb c b (marked_old c on), on) at (is.mate c) in search rules)
+    | on_cycle on ↦ grind (arith, common_steps, label_on c on, is.mate c)
     | beside ne off ↦ order_old c ne off
   ]
 

@@ -172,9 +172,7 @@ pub listed_sum : (next : ℕ → ℕ) (from many y : ℕ) → ((i j : ℕ) → i
     → bool_number (listed next from many y) ≡ ring_sum next (λ p. bool_number (eqb y p)) from many
 listed_sum next from zero y distinct = refl
 listed_sum next from (suc many) y distinct =
-    let more = listed_sum next from many y (λ i j lij lj. distinct i j lij (omega arith)) in
-    let off = listed_off next from many (walk next from many) (λ k l. distinct k many l (omega arith)) in
-    grind arith
+    grind (arith, listed_sum next from many y, listed_off next from many (walk next from many))
 
 -- What is written at one of different places stands there, and elsewhere nothing is changed.
 pub writes_at : {X : Type 0} (f : ℕ → X) (place : ℕ → ℕ) (value : ℕ → X) (many k : ℕ) → k < many

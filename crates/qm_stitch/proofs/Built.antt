@@ -1,20 +1,21 @@
 -- The tables that are built number the layout.
+use Rattle.std.proofs.lemmas.Grind.{common_steps}
 use Rattle.std.proofs.Common.{◌≡◌, ℕ, ◌-◌, ◌*◌, ◌^◌, ◌<◌, ◌≤◌, List, length, sym, ◌∙◌, ap, arith, ◌⊎◌, ◌↔◌, ◌+◌, ◌||◌}
-use Rattle.std.proofs.Common.{Bool, true, false, get_or}
-use Rattle.std.proofs.{Math.Nat.sub-zero, lemmas.Bool.eq-eqb, lemmas.Bool.eqb-true}
-use Rattle.std.proofs.lemmas.List.{Folds.list_any_at, Folds.Any-from_list_any, get_or_default, length-map}
+use Rattle.std.proofs.Common.{rules, Bool, true, false, get_or}
+use Rattle.std.proofs.{Math.Nat.sub-zero, lemmas.Bool.eq-eqb}
+use Rattle.std.proofs.lemmas.List.{Folds.list_any_at, Folds.Any-from_list_any, length-map}
 use Rattle.def_layout.specs.{Lengths.size, Lengths.wide, Lengths.high, Lengths.Lengths, declared.tmesh.SideArc.SideArc}
 use Rattle.def_layout.specs.Gluings.{Way, south, west, Gluing, east, north}
 use Rattle.def_layout.specs.Layouts.{Layout, gluing_of, way_number, side_at}
 use Rattle.def_remesh.specs.{declared.tables.Tables.Tables, NewPoints.lengths_in, Rises.IsOnSide}
-use Rattle.def_remesh.specs.Numberings.{sizes_on, table_at, tables_of, AreRunStarts, AreSideStarts, IsNumbering}
+use Rattle.def_remesh.specs.Numberings.{tables_of, AreRunStarts, AreSideStarts, IsNumbering}
 use Rattle.embedding_laws.proofs.Bounds.{laid_of, side_few, vertices_few}
 use Rattle.qm_offsets.proofs.{Spots.last_is, Spots.starts_same, Spots.term_room, Whole.way_for}
 use Rattle.qm_stitch.specs.{Tight.is_on, Tight.AddsMarks, Tight.IsDoubledIn, Tight.IsTightAt, Rims.along_lines}
 use Rattle.qm_stitch.specs.Sizes.{long_by, product_by, AreRows, IsFine}
 use Rattle.{qm_offsets.specs.Fours.begins_of, qm_offsets.specs.Fours.arcs_on, def_written.specs.Numbers.vertices}
 use Rattle.{written_laws.proofs.Sides.size_some, def_math.specs.Counts.count_below, sum_laws.proofs.Sums.count_below_le}
-use Rattle.{def_written.specs.NewFaces.cells_before, std.specs.Prelude.slice_index, std.specs.Prelude.◌==◌}
+use Rattle.{def_written.specs.NewFaces.cells_before, std.specs.Prelude.slice_index}
 
 module _ {layout : Layout} {list : List ℕ} (fine : IsFine layout list) where
   abbrev l : Gluing
@@ -40,8 +41,7 @@ module _ {layout : Layout} {list : List ℕ} (fine : IsFine layout list) where
 
   module _ {tables : List (List (List ℕ))} (are : AreSideStarts layout (lengths_in list) tables) where
     long_is : (p : ℕ) (s : Way) → p < length layout.patches → long_by tables p (way_number s) ≡ size l x p s
-    long_is p s low = last_is (sizes_on (side_at layout p s) x) (length (side_at layout p s)) (table_at tables p s)
-        (are.each p s low)
+    long_is p s low = search (rules, last_is)
 
     pub product_is : (less p : ℕ) → p < length layout.patches
         → product_by tables less p ≡ (wide l x p - less) * (high l x p - less)
@@ -50,12 +50,11 @@ module _ {layout : Layout} {list : List ℕ} (fine : IsFine layout list) where
     pub rows : (less : ℕ) → less ≤ 1 → AreRows tables less
     rows less one = record {
       four = λ p low. are.four p (omega (arith, are.sided));
-      some = λ p s low way.
-          let (w, same) = way_for s way in rw (← same) (omega (arith, (are.each p w (omega (arith, are.sided))).count));
+      some = λ p s low way. search (rules, way_for s way);
       long = λ p s low way.
           let (w, same) = way_for s way in
           let some = size_some l x (laid_of layout fine.mesh).paved fine.lengths p w in
-          rw (← same) (omega (arith, long_is p w, some, are.sided));
+          rw (← same) (omega (arith, long_is p w, are.sided));
       small = omega (
         arith,
         count_below_le (product_by tables less) (λ p. wide l x p * high l x p) (length tables) (λ p low. grind (
@@ -63,7 +62,6 @@ module _ {layout : Layout} {list : List ℕ} (fine : IsFine layout list) where
           product_is less p (omega (arith, are.sided)),
         )),
         ap (cells_before l x) are.sided,
-        fine.few,
       );
     }
 
@@ -92,13 +90,10 @@ pub adds_side : (layout : Layout) (p s : ℕ) (side : List SideArc) (old new : L
     → ((arc : ℕ) → arc < length old → get_or new arc false ≡ (get_or old arc false || is_on side arc))
     → (way : Way) → way_number way ≡ s → AddsMarks old new (IsOnSide (gluing_of layout) p way)
 adds_side layout p s side old new is told way same arc low =
-    let uses = side_at layout p way in
+    let uses = side_at layout p _ in
     let none : SideArc = record { arc = 0; forward = true } in
-    or_told (rw (is, ← same) at (told arc low)) (
-      λ on.
-          let (at, used, less, read, here) = Any-from_list_any (λ (it : SideArc). it.arc == arc) uses on in
-          let is = ap (λ (it : SideArc). it.arc) (get_or_default uses at none used less ∙ read) in
-          (at, less, is ∙ eqb-true used.arc arc here),
+    or_told (rw (is, ← same) at (told _ low)) (
+      grind (arith, common_steps, Any-from_list_any),
       λ (at, less, is). list_any_at _ uses at none less (eq-eqb (get_or uses at none).arc arc is),
     )
 

@@ -1,6 +1,6 @@
 -- What is told is what was told before, and more.
 use Rattle.std.proofs.Common.{◌⊎◌, ◌↔◌, ℕ, ◌+◌, ◌<◌, inl, inr, subst, arith, ◌≡◌, ◌≢◌, ◌*◌, ◌/◌, ◌%◌, ◌^◌, ◌≤◌, List}
-use Rattle.std.proofs.Common.{Bool, true, false, length, get_or, refl, sym, ◌∙◌, ap}
+use Rattle.std.proofs.Common.{rules, Bool, true, false, length, get_or, refl, sym, ◌∙◌, ap}
 use Rattle.std.proofs.lemmas.{List.get_or-map, List.get_or_default, List.length-map, Bool.cases_lt}
 use mathlib.Core.{Logic.∥∥₁_elim, HLevel.⊥_prop}
 use Rattle.def_layout.specs.{Layouts.Layout, Layouts.gluing_of, Lengths.Lengths, Lengths.AreLengths, Surfaces.IsSurface}
@@ -11,7 +11,7 @@ use Rattle.written_laws.proofs.{EdgeNumbers.number_low, EdgeNumbers.number_same,
 use Rattle.written_laws.proofs.Borders.{hub, spoke, tip, tip_column, tip_row, tip_low, one_way, hub_edge, loop_at}
 use Rattle.written_laws.proofs.Borders.{point_sort, spoke_joins, Inner, Joins}
 use Rattle.qm_stitch.proofs.RimEdges.{all_edges, deep_or_listed, fresh_rim, IsDeep}
-use Rattle.qm_stitch.specs.Rims.{key_of, keys_of, pair_key, rim_edges, IsLeastRepeat, IsRepeat}
+use Rattle.qm_stitch.specs.Rims.{key_of, keys_of, rim_edges, IsLeastRepeat, IsRepeat}
 use Rattle.{def_remesh.specs.declared.tables.Tables.Tables, std.specs.Coded.×_prop, std.specs.Coded.le_prop}
 use Rattle.{def_remesh.specs.NewPoints.lengths_in, qm_stitch.specs.Numbered.AreTables, qm_stitch.specs.Tight.IsDoubled}
 
@@ -46,11 +46,6 @@ told_end same told = rw (← same) told
 
 -- What repeats among the keys of the listed edges are the doubled pairs.
 
--- The two vertices of a key.
-split_key : (a b key : ℕ) → a < 2 ^ 32 → b < 2 ^ 32 → key ≡ pair_key a b → (key / 2 ^ 32 ≤ key % 2 ^ 32)
-    × (((a ≡ key / 2 ^ 32) × (b ≡ key % 2 ^ 32)) ⊎ ((a ≡ key % 2 ^ 32) × (b ≡ key / 2 ^ 32)))
-split_key a b key a_low b_low is = grind arith
-
 -- Two pairs of points with the same two numbers are one.
 pairs_same : {A : Type 0} (number : A → ℕ) {a b c d p q : A} {u v : ℕ} → (number c ≡ number a → c ≡ a)
     → (number c ≡ number b → c ≡ b) → (number d ≡ number a → d ≡ a) → (number d ≡ number b → d ≡ b)
@@ -75,23 +70,20 @@ module _ (l : Gluing) (x : Lengths) (laid : IsSurface l) (len : AreLengths l x) 
       let a = edge_points l x laid len e is_e in
       let b = edge_points l x laid len f is_f in
       let one = number_same l x in
-      let (w, f_is, tips) = hub_edge l x laid len f p i j (tip l x p i j way) is_f (pairs_same (vertex_number l x)
+      let (w, f_is, tips) = hub_edge l x laid len f p i j _ is_f (pairs_same (vertex_number l x)
       (one _ _ b.0 a.0) (one _ _ b.0 a.1) (one _ _ b.1 a.0) (one _ _ b.1 a.1) e_ends f_ends
       (subst (λ (g : Edge). Joins l x g (inside p i j) (tip l x p i j way)) (sym is)
       (spoke_joins l x laid len p i j way inner))) in
-      let low = tip_low l x laid len p i j w inner in
-      let at = point_sort l x laid len p (tip_column i w) (tip_row j w) p (tip_column i way) (tip_row j way) inner.0
-      low.0 low.1 (sym tips ∙ hub l x laid len p _ _ far) in
-      let same = one_way i j w way inner.1.a_some inner.1.b_some at.1 at.2 in
-      cc (is, f_is, same)
+      let low = tip_low l x laid _ p i j w inner in
+      let at = point_sort l x laid len p _ _ p _ _ inner.0 low.0 low.1 (sym tips ∙ hub l x laid len p _ _ far) in
+      search (rules, one_way)
 
   -- An edge between two inner points has two ends.
   deep_apart : (e : Edge) (u : ℕ) → IsEdge l x e → HasEnds l x e u u → IsDeep l x e → ⊥
   deep_apart e u is ends deep =
       let (p, i, j, way, inner, _, at) = deep_hub e is deep in
       let points = edge_points l x laid len e is in
-      let same = number_same l x _ _ points.0 points.1 in
-      loop_at l x laid len e p i j way inner at (same (omega (arith, ends)))
+      loop_at l x laid len e p i j way inner at ((number_same l x _ _ points.0 points.1) (omega (arith, ends)))
 
 module _ {layout : Layout} {t : Tables} (are : AreTables layout t) where
   abbrev l : Gluing
@@ -102,14 +94,11 @@ module _ {layout : Layout} {t : Tables} (are : AreTables layout t) where
 
   ends_low : (e : Edge) → IsEdge l x e → (vertex_number l x (edge_start l x e) < 2 ^ 32)
       × (vertex_number l x (edge_end l x e) < 2 ^ 32)
-  ends_low e is = ∥∥₁_elim are.laid (×_prop le_prop le_prop) (λ laid.
-      let ends = edge_points l x laid are.lengths e is in
-      let low = number_low l x in
-      (omega (arith, are.few, low _ ends.0), omega (arith, are.few, low _ ends.1)))
+  ends_low e is = ∥∥₁_elim are.laid (×_prop le_prop le_prop) (grind (arith, edge_points l x, number_low l x))
 
   pub key_ends : (e : Edge) (key : ℕ) → IsEdge l x e → key ≡ key_of l x e
       → (key / 2 ^ 32 ≤ key % 2 ^ 32) × HasEnds l x e (key / 2 ^ 32) (key % 2 ^ 32)
-  key_ends e key is same = split_key _ _ key (ends_low e is).0 (ends_low e is).1 same
+  key_ends e key is same = search (rules, ends_low)
 
   pub ends_key : (e : Edge) (u v : ℕ) → IsEdge l x e → u ≤ v → HasEnds l x e u v → (key_of l x e ≡ u * 2 ^ 32 + v)
       × (v < 2 ^ 32)
@@ -137,8 +126,7 @@ module _ {layout : Layout} {t : Tables} (are : AreTables layout t) where
 
   -- What repeats is doubled.
   pub repeat_doubled : (key : ℕ) → IsRepeat keys key → IsDoubledAt l x (key / 2 ^ 32) (key % 2 ^ 32)
-  repeat_doubled key (inl (same, (k, low, at))) =
-      let (is, le, ends) = place_tells key k key low at in (le, inl (same, (edge_at k, is, rw (← same) at ends)))
+  repeat_doubled key (inl (same, (k, low, at))) = search (rules, place_tells key k key low)
   repeat_doubled key (inr (i, j, less, low, at_i, at_j)) =
       let (is_i, le, i_ends) = place_tells key i 0 (omega arith) at_i in
       let (is_j, _, j_ends) = place_tells key j 0 low at_j in
@@ -172,8 +160,7 @@ module _ {layout : Layout} {t : Tables} (are : AreTables layout t) where
     | inl (same, (e, is, ends)) ↦
         let ends_uv = subst (λ w. HasEnds l x e u w) same ends in
         let at = place_of e (record { is = is; u = u; v = v; ends = ends_uv; doubled = d }) in
-        let low = (ends_key e u v is d.0 ends_uv).1 in
-        (inl (omega (arith, same, low), (at.0, at.1, at.3 (u * 2 ^ 32 + v))), low)
+        grind (arith, ends_key e u v is d.0 ends_uv, at.3 (u * 2 ^ 32 + v))
     | inr (e, f, is_e, is_f, apart, e_ends, f_ends) ↦
         let k = place_of e (record { is = is_e; u = u; v = v; ends = e_ends; doubled = d }) in
         let m = place_of f (record { is = is_f; u = u; v = v; ends = f_ends; doubled = d }) in
@@ -192,8 +179,7 @@ module _ {layout : Layout} {t : Tables} (are : AreTables layout t) where
     doubled = repeat_doubled key is.is;
     least = λ a b doubled.
         let r = doubled_repeats a b doubled in
-        let le = is.least (a * 2 ^ 32 + b) r.0 in
-        grind (arith, cases_lt (key / 2 ^ 32) a, r.1, le);
+        grind (arith, is.least (a * 2 ^ 32 + b) r.0);
   }
 
   pub none_doubled : ((key : ℕ) → ¬ IsRepeat keys key) → IsUndoubled l x

@@ -1,4 +1,5 @@
 -- The first remedy of each pair in a list in order is the cheapest, and marks of the arcs of these.
+use Rattle.std.proofs.lemmas.Grind.{common_steps}
 use Rattle.std.proofs.Common.{rules, ◌≡◌, ◌≢◌, ◌⊎◌, ℕ, zero, suc, ◌+◌, ◌-◌, ◌<◌, ◌≤◌, Bool, false, List, length, get_or}
 use Rattle.std.proofs.Common.{refl, sym, ◌∙◌, ap, subst, inl, inr, arith, ◌*◌, ◌/◌, ◌%◌, ◌^◌, [], map}
 use Rattle.std.proofs.lemmas.Bool.{cases_eq, cases_lt, false≢true, Decides.nat_tests}
@@ -9,13 +10,13 @@ use Rattle.def_layout.specs.{Surfaces.HasWholeSides, Surfaces.IsSurface, declare
 use Rattle.def_layout.specs.{Gluings.Way, Gluings.north, Gluings.west, Gluings.Gluing, declared.tmesh.TArc.TArc}
 use Rattle.def_layout.specs.Layouts.{Layout, gluing_of, way_number, layout_of}
 use Rattle.def_remesh.specs.Numberings.{sizes_on, tables_of, AreRunStarts, IsNumbering}
-use Rattle.def_written.specs.NewFaces.{cells_before, face_count, patch_of}
+use Rattle.def_written.specs.NewFaces.{face_count, patch_of}
 use Rattle.def_written.specs.Numbers.{before_arc, before_patch, vertex_number as point_name}
 use Rattle.def_written.specs.Points.{along, inside, arc_point, use_point, side_point, point, Point}
 use Rattle.embedding_laws.proofs.Bounds.{laid_of, side_few, vertices_few}
 use Rattle.qm_offsets.{specs.Fours.arcs_on, proofs.Spots.last_is, proofs.Spots.within_run}
-use Rattle.qm_offsets.proofs.Whole.{arcs_low, read_size, read_used, sides_of, way_for}
-use Rattle.written_laws.proofs.{Spacings.cell_here, Spacings.run_low, EdgeNumbers.number_low, Sides.arc_inner}
+use Rattle.qm_offsets.proofs.Whole.{arcs_low, read_used, sides_of, way_for}
+use Rattle.written_laws.proofs.{Spacings.cell_here, Spacings.run_low, EdgeNumbers.number_low}
 use Rattle.qm_stitch.specs.{Numbered.AreTables, Sizes.long_by, Sizes.point_on, Tight.AddsMarks, Cells.IsCellOf}
 use Rattle.qm_stitch.specs.Remedies.{remedy_at, AreInOrder, AreMarksOf, IsCheapestIn, IsFirstUpto}
 use Rattle.{def_math.specs.Counts.count_below, def_math.specs.Runs.run_at, def_cut.specs.Grids.rectangle}
@@ -87,9 +88,6 @@ module _ (l : Gluing) (x : Lengths) (p i j : ℕ) {w h : ℕ} (wide_is : w ≡ w
       → v ≡ point_name l x (point l x p i j)
   on_west below first is = grind (arith, nat_tests)
 
-  on_inside : j ≢ h → i ≢ 0 → i ≢ w → point l x p i j ≡ inside p i j
-  on_inside below later low = grind (arith, nat_tests)
-
 -- What is read of tables that number the layout of a mesh.
 pub tables_are : {layout : Layout} {t : Tables} → IsNumbering layout t → AreTables layout t
 tables_are {layout} is =
@@ -115,8 +113,7 @@ side_low layout paved p s low side long =
 pub uses_low : (t : TMesh) {tables : Tables} → AreTables (layout_of t) tables → {p s n : ℕ} {uses : List SideArc}
     → p < length t.patches.items → s < 4 → uses ≡ arcs_on (layout_of t) p s → n ≡ length t.arcs.items
     → All (λ (used : SideArc). used.arc < n) uses
-uses_low t are {p} {s} low side same long =
-    rw same (side_low (layout_of t) are.whole.paved p s (omega counts) side (omega counts))
+uses_low t are {p} {s} low side same long = grind (arith, common_steps, side_low (layout_of t) are.whole.paved p s)
 
 -- What is read of a table of starts, and its end.
 module _ {sizes : ℕ → ℕ} {runs : ℕ} {starts : List ℕ} (are : AreRunStarts sizes runs starts) where
@@ -148,13 +145,7 @@ module _ {layout : Layout} {t : Tables} (is : AreTables layout t) where
       → v ≡ get_or t.lengths.items a v → w ≡ get_or t.along.begin.items a w
       → IsNumberOf (t.nodes + w + (k - 1)) (arc_point l x a k)
   arc_here a k {v} {w} low upto some other read_v read_w =
-      let long = get_or_read _ a v (omega arith) read_v 0 in
-      let less : k < x a = omega arith in
-      let name : t.nodes + w + (k - 1) ≡ l.nodes + before_arc x a + (k - 1) =
-      omega (arith, starts_at is.along a low read_w) in (
-        name ∙ ap (point_name l x) (sym (arc_inner l x a k (omega (arith, some)) less)),
-        omega (arith, number_low l x (along a k), is.few),
-      )
+      grind (arith, get_or_read, starts_at is.along a low read_w, number_low l x (along a k))
 
   -- A place of a side.
   pub record IsThere (side : List SideArc) (starts : List ℕ) (place at : ℕ) : Type 0 where
@@ -170,12 +161,7 @@ module _ {layout : Layout} {t : Tables} (is : AreTables layout t) where
       let before = count_below (sizes_on side x) in
       let low = run_low before (length side) place some in
       let w = within_run (sizes_on side x) (length side) place some upto in
-      let begin = are.each (run_at before (length side) place) (omega (arith, low)) in
-      rw same (record {
-        from = omega (arith, w.0, begin);
-        upto = omega (arith, w.1, begin, read_size side x _ low);
-        point = λ i. use_point l x (sym (read_used side _ low) i) (place - begin i);
-      })
+      search (rules, read_used)
 
   -- The cell of a face, as it is read: its patch, where the cells of that begin, and how wide it is.
   pub cell_read : {f patch begin : ℕ} {starts : List ℕ} → f < face_count l x → starts ≡ t.cells.begin.items
@@ -186,10 +172,7 @@ module _ {layout : Layout} {t : Tables} (is : AreTables layout t) where
   cell_read {f} {patch} {begin} low same run read =
       let (here, place) = cell_here (wide l x) (high l x) l.patches f low in
       let patch_is : patch ≡ patch_of l x f = run (λ p. wide l x p * high l x p) l.patches (rw same is.cells) in
-      let begin_is = starts_at is.cells patch (omega (arith, patch_is, here.low)) read in (
-        omega (arith, begin_is, ap (cells_before l x) patch_is, place),
-        λ columns wide_is. rw (wide_is, begin_is, patch_is) (omega (arith, here.column), assumption here),
-      )
+      let begin_is = starts_at is.cells patch (omega (arith, patch_is, here.low)) read in search rules
 
   -- An inner point of a patch.
   pub inside_here : (p i j : ℕ) {columns rows begin end : ℕ} → p < length layout.patches → i ≤ wide l x p
@@ -197,10 +180,4 @@ module _ {layout : Layout} {t : Tables} (is : AreTables layout t) where
       → begin ≡ before_patch l x p → end ≡ before_arc x (length layout.arcs)
       → IsNumberOf (t.nodes + end + begin + ((j - 1) * (columns - 1) + (i - 1))) (point l x p i j)
   inside_here p i j {columns} {rows} {begin} {end} low i_upto j_upto wide_is high_is above below later less begin_is
-      end_is =
-      let product = ap (λ n. (j - 1) * (n - 1)) wide_is in
-      let name : t.nodes + end + begin + ((j - 1) * (columns - 1) + (i - 1)) ≡ point_name l x (inside p i j) =
-      omega arith in (
-        name ∙ ap (point_name l x) (sym (on_inside l x p i j wide_is high_is above below later less)),
-        omega (arith, number_low l x (inside p i j)),
-      )
+      end_is = search (rules, nat_tests, number_low l x (inside p i j))

@@ -1,5 +1,5 @@
 -- Remedies along arcs and along the sides of patches, by the edges of arcs and of lines.
-use Rattle.std.proofs.Common.{rules, ◌≡◌, ◌⊎◌, ◌↔◌, ℕ, ◌-◌, ◌%◌, ◌<◌, not, refl, sym, ◌∙◌, inl, inr, arith}
+use Rattle.std.proofs.Common.{rules, ◌≡◌, ◌⊎◌, ◌↔◌, ℕ, ◌-◌, ◌%◌, ◌<◌, not, refl, inl, inr, arith}
 use Rattle.def_layout.specs.{Lengths.Lengths, Lengths.size, Layouts.Layout, Layouts.layout_of, Gluings.Gluing}
 use Rattle.def_written.specs.Edges.{Edge, on_arc, flat, steep, IsEdge}
 use Rattle.qm_stitch.proofs.{TightEdges.key_tells, TightEdges.line_end, TightEdges.line_some, RiseLists.remedy_in}
@@ -74,10 +74,10 @@ module _ (priced : Priced) where
     line_both first last cost first_is last_is cost_is r =
         let some = line_some priced.keyed inside in
         rw (first_is, last_is, cost_is) (
-          elim [ inl by ↦ by_end 0 some by | inr by ↦ by_end (long - 1) (omega arith) by ],
+          elim [ inl by ↦ by_end 0 some by | inr by ↦ by_end _ (omega arith) by ],
           λ by.
-              let back = (by_edge (edge by.at) price run r by.doubled.is).1 (by.doubled, by.key, by.price, by.run) in
-              elim (line_end priced.keyed line.upright line.patch line.number by.at by.doubled) [
+              let back = (by_edge _ _ _ r by.doubled.is).1 (by.doubled, by.key, by.price, by.run) in
+              elim (line_end priced.keyed _ _ _ _ by.doubled) [
                 | inl same ↦ inl (rw same at back)
                 | inr same ↦ inr (rw same at back)
               ],
@@ -85,39 +85,26 @@ module _ (priced : Priced) where
       where
         by_end : (k : ℕ) → k < long → IsBy (edge k) price run r → IsByLine priced line price run r
         by_end k less by =
-            let is = (line_is l x line.upright line.patch line.number k).1
-            (inside.patch, inside.some, inside.inside, less) in
-            let (doubled, key, cost, along) = (by_edge (edge k) price run r is).0 by in
+            let is = (line_is l x _ _ _ k).1 (inside.patch, inside.some, inside.inside, less) in
+            let (doubled, key, cost, along) = (by_edge _ _ _ r is).0 by in
             record { at = k; doubled = doubled; key = key; price = cost; run = along }
 
   -- Those along a short run are those by the edges along which it lies.
   along_by : (run : Run) → IsShortRun layout x run → (r : Remedy) → IsAlong priced run r
       ↔ ((e : Edge) × IsRunOf e run × IsOf e (price_of layout x priced.prices.now run) run r)
-  along_by run short r = (
-    λ (same, (e, by)). (e, rw same at by.run, (by.doubled, by.key, rw same at by.price, same)),
-    λ (e, of, (doubled, key, cost, same)).
-        (same, (e, rw same (record { doubled = doubled; key = key; run = of; short = short; price = cost }))),
-  )
+  along_by run short r = search rules
 
   -- Those in all lines along a side are those along it.
   pub side_both : (p s lines : ℕ) (price : ℤ) → s < 4 → lines ≡ size l x p (along_lines (not (s % 2 == 1)))
       → price ≡ price_along x priced.prices.now (arcs_on layout p s) → IsShortRun layout x (Side p s)
       → (r : Remedy) → ((n : ℕ) × (n < lines) × IsInLine p s price n r) ↔ IsAlong priced (Side p s) r
-  side_both p s lines price low lines_is price_is short r =
-      let along = along_by (Side p s) short r in (
-        λ (n, less, (some, by)). along.1 (
-          line_edge (s % 2 == 1) p n by.at,
-          side_run s low p n by.at,
-          (by.doubled, by.key, by.price ∙ price_is, by.run),
-        ),
-        λ has.
-            let (e, of, by) = along.0 has in
-            let (n, k, is) = run_line e p s of in
-            let (doubled, key, cost, same) = rw is at by in
-            let (_, some, up, _) = (line_is l x (s % 2 == 1) p n k).0 doubled.is in
-            let cost = cost ∙ sym price_is in
-            (n, omega arith, (some, record { at = k; doubled = doubled; key = key; price = cost; run = same })),
-      )
+  side_both p s lines price low lines_is price_is short r = (
+    search (rules, side_run),
+    λ has.
+        let (e, of, by) = (along_by _ short r).0 has in
+        let (n, k, is) = run_line e p s of in
+        search (rules, line_is l x (s % 2 == 1) p n k),
+  )
 
   -- Those by all edges of a short arc are those along it.
   pub arc_both : (a many : ℕ) → a < l.arcs → x a < MAX_FLOOR → many ≡ x a → (r : Remedy)

@@ -1,8 +1,9 @@
 -- Numbers that stand twice in a list.
+use Rattle.std.proofs.lemmas.Grind.{common_steps}
 use Rattle.std.proofs.Common.{rules, ◌≡◌, ◌⊎◌, ◌↔◌, ℕ, suc, ◌+◌, ◌-◌, ◌/◌, ◌%◌, ◌^◌, ◌<◌, ◌≤◌, true, false, cond, List}
 use Rattle.std.proofs.Common.{[], ◌∷◌, length, take, drop, get_or, sym, ◌∙◌, inl, inr, arith}
 use Rattle.std.proofs.lemmas.{Bool.cases_eq, Bool.cases_lt, Bool.eqb-true, Bool.false≢true, Bool.Decides.nat_tests}
-use Rattle.std.proofs.lemmas.List.{get_or-take, get_or-drop, get_or_default, length-take-le, length-drop}
+use Rattle.std.proofs.lemmas.List.{get_or-take, get_or-drop, length-take-le, length-drop}
 use Rattle.std.proofs.lemmas.List.Sums.{sum_by-cons, sum_by-take-drop, get_or-le-sum_by}
 use Rattle.std.proofs.{lemmas.List.Sorted.sum_by-IsPermutation}
 use Rattle.std.specs.{Prelude.◌==◌, List.sum_by, List.Sorted.IsPermutation, List.Sorted.IsNonDecreasing}
@@ -48,8 +49,7 @@ two_times key xs (i, j, less, low, at_i, at_j) =
 -- What repeats in a list repeats in each list that has the same sums.
 pub repeat_moved : (xs ys : List ℕ) (key : ℕ) → ((f : ℕ → ℕ) → sum_by f ys ≡ sum_by f xs) → IsRepeat xs key
     → IsRepeat ys key
-repeat_moved xs ys key same (inl (loop, (k, low, at))) =
-    inl (loop, some_place key key ys (omega (arith, same (hit key), one_time key key xs k low at)))
+repeat_moved xs ys key same (inl (loop, (k, low, at))) = search (rules, some_place, one_time)
 repeat_moved xs ys key same (inr two) = inr (two_places key ys (omega (arith, two_times key xs two, same (hit key))))
 
 module _ (keys : List ℕ) (increasing : IsNonDecreasing keys) where
@@ -65,9 +65,6 @@ module _ (keys : List ℕ) (increasing : IsNonDecreasing keys) where
       ⊎ ((place + 1 < length keys) × (key_at (place + 1) ≡ key_at place)))
   told_at place = grind (arith, nat_tests)
 
-  at_repeat : (place : ℕ) → place < length keys → is_repeat_at keys place ≡ true → IsRepeat keys (key_at place)
-  at_repeat place low on = search rules
-
   -- Where a place does not tell of what stands there, the place before it does.
   pub before_tells : {place key : ℕ} → place < length keys → key_at place ≡ key → 0 < place
       → is_repeat_at keys place ≡ false → ((key_at (place - 1) == key) ≡ true) ↔ IsRepeat keys key
@@ -75,28 +72,21 @@ module _ (keys : List ℕ) (increasing : IsNonDecreasing keys) where
     λ on. inr (place - 1, place, omega arith, low, eqb-true _ key on, at),
     elim [
       | inl (loop, has) ↦ grind (arith, nat_tests)
-      | inr (i, j, less, j_low, at_i, at_j) ↦ grind (
-        arith,
-        nat_tests,
-        cases_lt place j,
-        between place (place + 1) j,
-        between i (place - 1) place,
-      )
+      | inr (i, j, less, j_low, at_i, at_j) ↦ grind (arith, between place (place + 1) j, between i (place - 1) place)
     ],
   )
 
   -- It is told at the first place where it stands.
   repeat_at : (key : ℕ) → IsRepeat keys key
       → (k : ℕ) × (k < length keys) × (key_at k ≡ key) × (is_repeat_at keys k ≡ true)
-  repeat_at key (inl (loop, (k, low, at))) =
-      let here = get_or_default keys k 0 key low ∙ at in (k, low, here, (told_at k).1 (inl (rw here loop)))
+  repeat_at key (inl (loop, (k, low, at))) = grind (arith, common_steps, told_at k)
   repeat_at key (inr (i, j, less, low, at_i, at_j)) = search rules
 
   -- The first place of a repeat has the least one.
   pub first_is : (place : ℕ) → place < length keys → ((k : ℕ) → k < place → is_repeat_at keys k ≡ false)
       → is_repeat_at keys place ≡ true → IsLeastRepeat keys (key_at place)
   first_is place low none on = record {
-    is = at_repeat place low on;
+    is = (search rules);
     least = λ other is.
         let (k, k_low, at, told) = repeat_at other is in
         grind (arith, cases_lt k place, none k, told, at, increasing place k 0);

@@ -1,16 +1,17 @@
 -- Lists that are joined of parts, in which no item stands twice.
+use Rattle.std.proofs.lemmas.Grind.{common_steps}
 use Rattle.std.proofs.Common.{rules, ◌≡◌, ◌≢◌, ◌⊎◌, ◌↔◌, ℕ, zero, suc, ◌+◌, ◌-◌, ◌<◌, ◌≤◌, Bool, true, false, cond, not}
 use Rattle.std.proofs.Common.{List, [], ◌∷◌, ◌++◌, map, length, refl, sym, ◌∙◌, ap, inr, length-append}
 use Rattle.std.proofs.{Common.arith, lemmas.List.map-id, lemmas.List.Concat.flat_map-append}
 use Rattle.std.proofs.lemmas.List.{get_or_append_left, get_or-append_right, append-nil, append_assoc, map-append}
 use Rattle.std.proofs.lemmas.List.Elements.{All-append, All-nil, Contains-append_left, Contains-append_right}
 use Rattle.std.proofs.lemmas.List.FromFn.{get_or-map-range_with_len, length-map-range_with_len, map-range_with_len_more}
-use Rattle.std.proofs.lemmas.Bool.{cases_eq, cases_lt, ltb-true, Decides.nat_tests}
+use Rattle.std.proofs.lemmas.Bool.{cases_eq, cases_lt, Decides.nat_tests}
 use Rattle.std.specs.List.{All, AllPairs, Contains, flat_map, range_with_len}
 use Rattle.def_layout.specs.Lengths.{Lengths, size, wide, high, AreLengths}
 use Rattle.def_written.specs.Edges.{Edge, on_arc, flat, steep, IsEdge}
 use Rattle.qm_stitch.specs.Rims.{all_lines, along_lines, arcs_upto, ends_in, line_edge, line_ends, patches_upto}
-use Rattle.{std.specs.Prelude.nat_lt, def_layout.specs.Gluings.Gluing, def_layout.specs.Surfaces.HasWholeSides}
+use Rattle.{def_layout.specs.Gluings.Gluing, def_layout.specs.Surfaces.HasWholeSides}
 use Rattle.{written_laws.proofs.Sides.size_some, qm_stitch.specs.Rims.rim_edges, qm_stitch.specs.Rims.segments}
 
 -- No item stands twice.
@@ -28,8 +29,7 @@ module _ {X : Type 0} where
   all_parts : (P : X → Type 0) (part : ℕ → List X) (first many : ℕ)
       → ((k : ℕ) → first ≤ k → k < first + many → All P (part k)) → All P (flat_map part (range_with_len first many))
   all_parts P part first zero each = All-nil P
-  all_parts P part first (suc many) each = All-append P (part first) _ (each first (omega arith) (omega arith))
-      (all_parts P part (first + 1) many (λ k low high. each k (omega arith) (omega arith)))
+  all_parts P part first (suc many) each = search (rules, All-append P (part first), all_parts P part (first + 1) many)
 
   in_part : (part : ℕ → List X) (first many k : ℕ) (x : X) → first ≤ k → k < first + many → Contains (part k) x
       → Contains (flat_map part (range_with_len first many)) x
@@ -44,12 +44,6 @@ module _ {X : Type 0} where
   fresh_parts part tag first (suc many) fresh tags = fresh_append tag first (part first) _ (fresh first)
       (fresh_parts part tag (first + 1) many fresh tags) (λ i d low. omega (arith, tags first i d low))
       (all_parts (λ z. first < tag z) part (first + 1) many (λ k from to i d low. omega (arith, tags k)))
-
-  -- The same of items by their numbers.
-  fresh_range : (item : ℕ → X) (tag : X → ℕ) (many : ℕ) → ((k : ℕ) → tag (item k) ≡ k)
-      → IsFresh (map item (range_with_len 0 many))
-  fresh_range item tag many tags =
-      grind (arith, tags, length-map-range_with_len item 0 many, get_or-map-range_with_len item 0 many)
 
   all_range : (P : X → Type 0) (item : ℕ → X) (many : ℕ) → ((k : ℕ) → k < many → P (item k))
       → All P (map item (range_with_len 0 many))
@@ -82,18 +76,18 @@ first_alone f first last several xs off one is = rw (off, one, is)
 pub item_next : {X Y : Type 0} (f : X → Y) (item : ℕ → X) (many : ℕ) (before : List Y) {ys zs : List Y} {y : Y}
     → ys ≡ before ++ map f (map item (range_with_len 0 many)) → zs ≡ ys ++ y ∷ [] → y ≡ f (item many)
     → zs ≡ before ++ map f (map item (range_with_len 0 (many + 1)))
-item_next f item many before so_far more is =
-    rw (more, so_far, is, map-range_with_len_more item 0 many many (omega arith)) (simp (map-append, append_assoc))
-
--- One part more.
-range_next : (first many : ℕ) → range_with_len first (many + 1) ≡ range_with_len first many ++ (first + many) ∷ []
-range_next first many = sym (map-id _) ∙ map-range_with_len_more (λ k. k) first many _ refl ∙ ap
-    (λ ks. ks ++ (first + many) ∷ []) (map-id _)
+item_next f item many before so_far more is = grind (arith, common_steps, map-range_with_len_more item 0 many many)
 
 pub parts_next : {X Y : Type 0} (f : X → Y) (part : ℕ → List X) (first many next : ℕ) (before : List Y) {ys zs : List Y}
     → first + many ≡ next → ys ≡ before ++ map f (flat_map part (range_with_len first many)) → zs
     ≡ ys ++ map f (part next) → zs ≡ before ++ map f (flat_map part (range_with_len first (many + 1)))
-parts_next f part first many next before is so_far more = rw (more, so_far, ← is, range_next first many)
+parts_next f part first many next before is so_far more = rw (
+  more,
+  so_far,
+  ← is,
+  sym (map-id _)
+      ∙ map-range_with_len_more (λ k. k) first many _ refl ∙ ap (λ ks. ks ++ (first + many) ∷ []) (map-id _),
+)
     (simp (flat_map-append, append-nil, map-append, append_assoc))
 
 -- The edges that are listed are edges, each once, and all others lie between two inner points of a patch.
@@ -114,10 +108,6 @@ all_ends : {X : Type 0} (P : X → Type 0) (several : Bool) (first last : X) →
     → All P (first ∷ cond several (last ∷ []) [])
 all_ends P several first last is end = grind arith
 
-fresh_ends : {X : Type 0} (first last : X) (several : Bool) → (several ≡ true → first ≢ last)
-    → IsFresh (first ∷ cond several (last ∷ []) [])
-fresh_ends first last several apart = grind arith
-
 deep_or_end : (u : Bool) (p long n k : ℕ) → k < long
     → ((0 < k) × (k + 1 < long)) ⊎ Contains (line_ends u p long n) (line_edge u p n k)
 deep_or_end u p long n k less = grind (arith, nat_tests, cases_eq k 0, cases_lt (k + 1) long, cases_lt 1 long)
@@ -137,9 +127,7 @@ module _ (l : Gluing) (x : Lengths) where
   each_line : (P : Edge → Type 0) (u : Bool) (p : ℕ)
       → ((n k : ℕ) → 0 < n → n < long (not u) p → (0 < long u p → k < long u p) → P (line_edge u p n k))
       → All P (all_lines l x u p)
-  each_line P u p each = all_parts P (line_ends u p (long u p)) 1 (long (not u) p - 1)
-      (λ n low up. all_ends P (nat_lt 1 (long u p)) _ _ (each n 0 (omega arith) (omega arith) (λ some. some))
-      (each n (long u p - 1) (omega arith) (omega arith) (λ some. omega arith)))
+  each_line P u p each = grind (arith, all_parts P (line_ends u p (long u p)) 1 (long (not u) p - 1))
 
   each_in : (P : Edge → Type 0) (p : ℕ)
       → ((u : Bool) (n k : ℕ) → 0 < n → n < long (not u) p → (0 < long u p → k < long u p) → P (line_edge u p n k))
@@ -148,37 +136,24 @@ module _ (l : Gluing) (x : Lengths) where
 
   each_patch : (P : Edge → Type 0) → ((u : Bool) (p n k : ℕ) → p < l.patches → 0 < n → n < long (not u) p
       → (0 < long u p → k < long u p) → P (line_edge u p n k)) → All P (patches_upto l x l.patches)
-  each_patch P each =
-      all_parts P (ends_in l x) 0 l.patches (λ p low up. each_in P p (λ u n k. each u p n k (omega (arith, up))))
+  each_patch P each = all_parts P _ 0 _ (λ p low up. each_in P p (λ u n k. each u p n k (omega (arith, up))))
 
   each_arc : (P : Edge → Type 0) → ((a k : ℕ) → a < l.arcs → k < x a → P (on_arc a k)) → All P (arcs_upto x l.arcs)
-  each_arc P each = all_parts P (segments x) 0 l.arcs
-      (λ a low up. all_range P (on_arc a) (x a) (λ k. each a k (omega (arith, up))))
+  each_arc P each = grind (arith, all_parts P (segments x) 0 l.arcs, all_range P)
 
   fresh_lines : (u : Bool) (p : ℕ) → IsFresh (all_lines l x u p)
-  fresh_lines u p = fresh_parts (line_ends u p (long u p)) (λ e. (parts e).2) 1 (long (not u) p - 1)
-      (λ n. fresh_ends _ _ (nat_lt 1 (long u p)) (λ several same. omega (
-        arith,
-        ltb-true 1 (long u p) several,
-        ap (λ q. q.3) (sym (parts_are u p n 0) ∙ ap parts same ∙ parts_are u p n (long u p - 1)),
-      )))
-      (λ n. all_ends (λ e. (parts e).2 ≡ n) (nat_lt 1 (long u p)) _ _ (ap (λ q. q.2) (parts_are u p n 0))
-      (ap (λ q. q.2) (parts_are u p n (long u p - 1))))
+  fresh_lines u p = fresh_parts (line_ends u p (long u p)) (λ e. (parts e).2) 1 _ (search rules) (search rules)
 
   fresh_patch : (p : ℕ) → IsFresh (ends_in l x p)
-  fresh_patch p = fresh_append (λ e. (parts e).0) 1 (all_lines l x false p) _ (fresh_lines false p) (fresh_lines true p)
-      (each_line (λ e. (parts e).0 ≤ 1) false p (λ n k some up less. omega arith))
-      (each_line (λ e. 1 < (parts e).0) true p (λ n k some up less. omega arith))
+  fresh_patch p = fresh_append (λ e. (parts e).0) 1 _ _ (fresh_lines false p) (fresh_lines true p)
+      (search (rules, each_line)) (search (rules, each_line))
 
   -- No edge is listed twice.
   pub fresh_rim : IsFresh (rim_edges l x)
-  fresh_rim = fresh_append (λ e. (parts e).0) 0 (arcs_upto x l.arcs) _
-      (fresh_parts (segments x) (λ e. (parts e).1) 0 l.arcs (λ a. fresh_range (on_arc a) (λ e. (parts e).2) (x a)
-      (λ k. refl)) (λ a. all_range (λ e. (parts e).1 ≡ a) (on_arc a) (x a) (λ k less. refl)))
-      (fresh_parts (ends_in l x) (λ e. (parts e).1) 0 l.patches fresh_patch (λ p. each_in (λ e. (parts e).1 ≡ p) p
-      (λ u n k some up less. ap (λ q. q.1) (parts_are u p n k))))
-      (each_arc (λ e. (parts e).0 ≤ 0) (λ a k low less. omega arith))
-      (each_patch (λ e. 0 < (parts e).0) (λ u p n k low some up less. grind (arith, parts_are u p n k)))
+  fresh_rim = fresh_append (λ e. (parts e).0) 0 _ _ (fresh_parts (segments x) (λ e. (parts e).1) 0 l.arcs
+      (λ a. search (rules, on_arc, length-map-range_with_len, get_or-map-range_with_len)) (search (rules, all_range)))
+      (fresh_parts (ends_in l x) (λ e. (parts e).1) 0 l.patches fresh_patch (search (rules, each_in, parts_are)))
+      (search (rules, each_arc)) (each_patch (λ e. 0 < (parts e).0) (search rules))
 
   -- What is listed is an edge.
   pub all_edges : HasWholeSides l → AreLengths l x → All (IsEdge l x) (rim_edges l x)

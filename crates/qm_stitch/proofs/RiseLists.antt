@@ -5,7 +5,7 @@ use Rattle.std.proofs.lemmas.List.{get_or_append_left, get_or_push, length_push,
 use Rattle.std.specs.Prelude.{ℤ, pos}
 use Rattle.def_layout.specs.{Layouts.gluing_of, Layouts.Layout, Gluings.Gluing, Surfaces.HasWholeSides, Lengths.Lengths}
 use Rattle.def_remesh.specs.Rises.{rise_at, AreNeeded, AreTightLong, IsNeeded, IsTightArc, RunsAlong}
-use Rattle.def_written.specs.Edges.{Edge, on_arc, flat, steep, IsEdge}
+use Rattle.def_written.specs.Edges.{Edge, on_arc, flat, steep}
 use Rattle.qm_stitch.specs.{Remedies.FollowCheapest, Remedies.IsCheapest, Remedies.IsCheapestIn, Rims.key_of}
 use Rattle.qm_stitch.specs.Raised.{AreFloors, AreOrdered, AreRisesUpto, IsFloorOf, IsShortTight}
 use Rattle.qm_stitch.specs.Remedies.{price_of, IsArcOf, IsRemedy, IsRunIn, IsRunOf, IsShortRun, IsSomeShort, AreMarksOf}
@@ -13,8 +13,7 @@ use Rattle.qm_stitch.specs.declared.remedy.{Run.TheVariants.Arc, Run.TheVariants
 use Rattle.{std.proofs.lemmas.Bool.cases_eq, std.proofs.lemmas.Bool.false≢true, def_remesh.specs.NewPoints.lengths_in}
 use Rattle.{def_certtext.specs.declared.certs.Rise.Rise, std.specs.List.Contains, qm_stitch.proofs.Grids.side_low}
 use Rattle.{def_layout.specs.declared.tmesh.SideArc.SideArc, def_flow.specs.declared.limits.TheConstants.MAX_FLOOR}
-use Rattle.{qm_stitch.proofs.TightEdges.tight_by, qm_offsets.specs.Fours.arcs_on, def_remesh.specs.Numberings.used_at}
-use mathlib.Core.Logic.Iff
+use Rattle.{qm_stitch.proofs.TightEdges.tight_by, qm_offsets.specs.Fours.arcs_on}
 
 -- The rise past the last one.
 abbrev no_rise : Rise
@@ -24,12 +23,7 @@ module _ (some : Bool) (tight : List Bool) (xs : List ℕ) where
   -- One arc more, whose floor stays or rises.
   pub stays : (arc : ℕ) (rises : List Rise) → AreRisesUpto some tight xs arc rises
       → ((floor : ℕ) → ¬ IsFloorOf some tight xs arc floor) → AreRisesUpto some tight xs (arc + 1) rises
-  stays arc rises are none = record {
-    below = λ k low. omega arith;
-    ordered = are.ordered;
-    floors = are.floors;
-    each = λ a floor low is. grind (arith, cases_eq a arc, none floor, are.each a floor, is);
-  }
+  stays arc rises are none = search rules
 
   pub rises_too : (arc : ℕ) (rise : Rise) (rises : List Rise) → AreRisesUpto some tight xs arc rises → rise.arc ≡ arc
       → arc < length xs → IsFloorOf some tight xs rise.arc rise.floor
@@ -44,9 +38,7 @@ module _ (some : Bool) (tight : List Bool) (xs : List ℕ) where
         floors = λ k k_low. grind (arith, longer, old k, new k, are.floors k);
         each = λ a floor a_low has. elim (cases_eq a arc) [
           | inl this ↦ (length rises, omega arith, ap (λ (r : Rise). r.arc) (new _ refl) ∙ same ∙ sym this)
-          | inr other ↦
-              let (k, k_low, at) = are.each a floor (omega arith) has in
-              (k, omega arith, ap (λ (r : Rise). r.arc) (old k k_low) ∙ at)
+          | inr other ↦ grind (arith, are.each a floor)
         ];
       }
 
@@ -68,10 +60,7 @@ module _ (l : Gluing) (xs : List ℕ) (tight : List Bool) where
       -- A needed floor is one by the marks.
       needed_floor : (b : Bool) → some ≡ b → (rise : Rise) → IsNeeded l (lengths_in xs) rise
           → IsFloorOf b tight xs rise.arc rise.floor
-      needed_floor true on rise is = elim is.reason [
-        | inl (t, same) ↦ (omega (arith, is.low), (tells rise.arc is.there).1 t, same)
-        | inr (all, same) ↦ search rules
-      ]
+      needed_floor true on rise is = search rules
       needed_floor false off rise is = grind (arith, is.there, is.low, is.short, is.reason, tight_long off rise.arc)
 
       pub needed_are : (rises : List Rise) → ((0 < length rises) × AreOrdered rises × AreFloors some tight xs rises)
@@ -85,12 +74,7 @@ module _ (l : Gluing) (xs : List ℕ) (tight : List Bool) where
               let less : (rise_at rises k).arc < l.arcs = omega arith in
               floor_needed some (rise_at rises k) (λ on. (tells _ less).0) tight_long less floor;
         },
-        λ are. (
-          are.some,
-          are.ordered,
-          λ k low.
-              let is = are.each k low in (omega (arith, is.there), needed_floor some refl (rise_at rises k) is),
-        ),
+        search (rules, needed_floor some),
       )
 
 -- Arcs along edges: which arcs are tight by them, which of them are short, and which edges they lie along.
@@ -108,14 +92,9 @@ run_along layout (flat p i j) arc (inr has) = (Side p 2, inr refl, has)
 run_along layout (steep p i j) arc (inl has) = (Side p 1, inl refl, has)
 run_along layout (steep p i j) arc (inr has) = (Side p 3, inr refl, has)
 
--- There are these arcs.
-run_in : (layout : Layout) (x : Lengths) (e : Edge) (run : Run) → IsEdge (gluing_of layout) x e → IsRunOf e run
-    → IsRunIn layout run
-run_in layout x h1 h2 = search rules
-
 module _ (layout : Layout) (x : Lengths) (prices : List ℤ) where
   pub remedy_in : (r : Remedy) → IsRemedy layout x prices r → IsRunIn layout r.run
-  remedy_in r (e, is) = run_in layout x e r.run is.doubled.is is.run
+  remedy_in r (e, is) = (search rules)
 
   -- The arcs of a remedy are tight.
   pub remedy_tight : (r : Remedy) (arc : ℕ) → IsRemedy layout x prices r → IsArcOf layout r.run arc
@@ -136,17 +115,13 @@ module _ (layout : Layout) (x : Lengths) (prices : List ℤ) where
 -- Short arcs in use are short arcs of a side.
 pub uses_tell : (layout : Layout) (x : Lengths) (p s : ℕ) {uses : List SideArc} {some : Bool}
     → uses ≡ arcs_on layout p s → (some ≡ true) ↔ IsSomeShort x uses → (some ≡ true) ↔ IsShortRun layout x (Side p s)
-uses_tell layout x p s same told = Iff.trans (rw same at told) (
-  λ (at, low, short). ((used_at (arcs_on layout p s) at).arc, (at, low, refl), short),
-  λ (arc, (at, low, is), short). (at, low, rw is short),
-)
+uses_tell layout x p s same told = grind arith
 
 -- What the arcs of a run are numbers of.
 pub arc_low : (layout : Layout) (run : Run) (arc : ℕ) → HasWholeSides (gluing_of layout) → IsRunIn layout run
     → IsArcOf layout run arc → arc < length layout.arcs
 arc_low layout (Arc a) arc paved there same = omega arith
-arc_low layout (Side p s) arc paved there has =
-    rw (← has.2) (side_low layout paved p s there.0 there.1 refl has.0 _ has.1)
+arc_low layout (Side p s) arc paved there has = search (rules, side_low)
 
 -- The rises of marked arcs of cheapest remedies are needed, and they follow the rule.
 
@@ -189,13 +164,12 @@ module _ {layout : Layout} {xs : List ℕ} (prices : List ℤ) {rs : List Remedy
 
   pub choice_needed : ¬ ((arc : ℕ) → arc < length xs → MAX_FLOOR ≤ x arc) → AreNeeded (gluing_of layout) x rises
   choice_needed not_long = record {
-    some = some_risen not_long some refl;
+    some = some_risen not_long _ refl;
     ordered = risen.ordered;
     each = λ k less.
         let (there, floor) = risen.floors k less in
         let there : (rise_at rises k).arc < length layout.arcs = omega arith in
-        floor_needed (gluing_of layout) xs marks some (rise_at rises k) (λ on. marked _ there)
-        (λ (off : some ≡ false). none_short layout x prices (λ r remedy.
+        floor_needed _ xs _ _ _ (λ on. marked _ there) (λ (off : some ≡ false). none_short _ x _ (λ r remedy.
         let has = (found r).1 remedy in false≢true (sym off ∙ told.1 (omega arith)))) there floor;
   }
 
@@ -214,7 +188,6 @@ module _ {layout : Layout} {xs : List ℕ} (prices : List ℤ) {rs : List Remedy
               (by_marks r remedy).each arc (x arc + 1) (omega arith) (short, c.3 arc less of, refl),
         );
     only = λ r remedy arc has.
-        let floor = (by_marks r remedy).floors has.0 has.1 in
-        let c = are.only _ (omega arith) floor.1.1 in
+        let c = are.only _ (omega arith) ((by_marks r remedy).floors has.0 has.1).1.1 in
         (c.0, cheapest c.0 c.1, subst (IsArcOf layout c.0.run) has.2 c.2);
   }

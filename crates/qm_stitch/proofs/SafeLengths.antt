@@ -10,16 +10,11 @@ use Rattle.written_laws.proofs.Shape.{keeps_shape_law, multiple_law, three_law}
 use Rattle.{def_layoutnet.specs.MeshLayouts.IsSomeLayout, def_written.specs.Edges.IsUndoubled}
 
 module _ (layout : Layout) (list : List ℕ) (long : length list ≡ length layout.arcs) where
-  -- Beyond the arcs, lengths are 0.
-  same_lengths : (by : ℕ) → ((arc : ℕ) → arc < length layout.arcs → lengths_in list arc ≡ multiple_of by
-      (long_at layout.arcs) arc) → (arc : ℕ) → multiple_of by (long_at layout.arcs) arc ≡ lengths_in list arc
-  same_lengths by same arc = search (rules, get_or_past)
-
   pub safe_undoubled : IsSomeLayout layout → AreLengths (gluing_of layout) (lengths_in list)
       → AreSafe layout (lengths_in list) → IsUndoubled (gluing_of layout) (lengths_in list)
   safe_undoubled is len (inl most) = three_law _ _ (laid_of layout is) len most
   safe_undoubled is len (inr (by, some, same)) = subst (λ (x : Lengths). IsUndoubled (gluing_of layout) x)
-      (λ i arc. same_lengths by same arc i) (multiple_law is.faces _ _ _ (lies layout is) by some).1
+      (search (rules, get_or_past)) (multiple_law is.faces _ _ _ (lies layout is) by some).1
 
   -- Where lengths are multiples of the old ones, the first tells how many times.
   pub times_found : AreLengths (gluing_of layout) (lengths_in list) → {result : Bool} {old by : ℕ} → 0 < length list

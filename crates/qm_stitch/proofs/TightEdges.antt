@@ -1,5 +1,5 @@
 -- Which edges are doubled: the keys tell, and none between two inner points of a patch is.
-use Rattle.std.proofs.Common.{rules, ◌≡◌, ◌⊎◌, ◌↔◌, ℕ, ◌+◌, ◌-◌, ◌/◌, ◌%◌, ◌^◌, ◌<◌, Bool, true, false, length, get_or}
+use Rattle.std.proofs.Common.{rules, ◌≡◌, ◌⊎◌, ◌↔◌, ℕ, ◌+◌, ◌-◌, ◌<◌, Bool, true, false, length, get_or}
 use Rattle.std.proofs.{Common.refl, Common.sym, Common.inl, Common.inr, Common.arith, lemmas.List.get_or_read}
 use Rattle.def_layout.specs.{Lengths.Lengths, Lengths.size, Layouts.layout_of, Gluings.Gluing}
 use Rattle.def_written.specs.Edges.{Edge, on_arc, flat, steep, IsEdge}
@@ -70,8 +70,7 @@ module _ (keyed : Keyed) where
         λ repeats.
             let repeats = repeat_moved keyed.keys.now rim key (λ f. sym (keyed.rim.moved f)) repeats in
             let ends = (key_ends are e key is refl).1 in
-            let doubled = repeat_doubled are key repeats in
-            record { is = is; u = key / 2 ^ 32; v = key % 2 ^ 32; ends = ends; doubled = doubled },
+            search (rules, repeat_doubled),
         λ d. rw (ends_key are e d.u d.v is d.doubled.0 d.ends).0
             (repeat_moved rim keyed.keys.now _ keyed.rim.moved (doubled_repeats are d.u d.v d.doubled).0),
       )
@@ -86,16 +85,12 @@ module _ (keyed : Keyed) where
         ⊎ IsRepeat keyed.keys.now (key_of l x (line_edge line.upright line.patch line.number
         (size l x line.patch (along_lines line.upright) - 1)))) ↔ IsLineDoubled l x line.upright line.patch line.number
     line_tells =
-        let edge = line_edge line.upright line.patch line.number in
-        let last = size l x line.patch (along_lines line.upright) - 1 in
-        let told = λ (k : ℕ) (less : k < size l x line.patch (along_lines line.upright)). key_tells (edge k)
+        let last = size l x _ _ - 1 in
+        let told = λ (k : ℕ) (less : k < size l x line.patch (along_lines line.upright)). key_tells _
         ((line_is l x line.upright line.patch line.number k).1 (inside.patch, inside.some, inside.inside, less)) in
         let end : last < size l x line.patch (along_lines line.upright) = omega (arith, line_some) in (
-          elim [ inl first ↦ (0, (told 0 line_some).0 first) | inr repeats ↦ (last, (told last end).0 repeats) ],
+          elim [ inl first ↦ (0, (told 0 line_some).0 first) | inr repeats ↦ (last, (told _ end).0 repeats) ],
           λ (k, by).
-              let back = (key_tells (edge k) by.is).1 by in
-              elim (line_end line.upright line.patch line.number k by) [
-                | inl first ↦ inl (rw first at back)
-                | inr same ↦ inr (rw same at back)
-              ],
+              let back = (key_tells ((line_edge _ _ _) k) by.is).1 by in
+              elim (line_end _ _ _ k by) [ inl first ↦ inl (rw first at back) | inr same ↦ inr (rw same at back) ],
         )

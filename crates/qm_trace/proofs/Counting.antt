@@ -1,9 +1,10 @@
 -- How many riders pass a test with their notes.
+use Rattle.std.proofs.lemmas.Grind.{common_steps}
 use Rattle.std.proofs.Common.{rules, ◌≡◌, ◌≢◌, ◌↔◌, ℕ, zero, suc, ◌+◌, ◌<◌, ◌≤◌, Bool, true, false, eqb, List, ◌∷◌, map}
 use Rattle.std.proofs.Common.{length, set, replicate, Option, Some, None, sym, ap, ◌∙◌, refl, inl, inr, arith, [], ◌^◌}
 use Rattle.std.proofs.{Common.cond, Common.◌||◌, lemmas.Bool.and_parts}
-use Rattle.std.proofs.lemmas.Bool.{true_from_ne_false, eq-eqb, ne_eqb, eqb-true, cases_lt, false≢true}
-use Rattle.std.proofs.lemmas.List.{set-get_or, get_or-map, get_or_past, length-map}
+use Rattle.std.proofs.lemmas.Bool.{true_from_ne_false, eq-eqb, ne_eqb, eqb-true, false≢true}
+use Rattle.std.proofs.lemmas.List.{set-get_or}
 use Rattle.def_cut.specs.Motion.{Terrain, end_of, is_among, begun, stop_of, or_else, straight, after_ride, ridden}
 use Rattle.def_cut.specs.Motion.{arrives_at, ride, later, State}
 use Rattle.def_cut.specs.{declared.graph.Stop.Stop, declared.moving.Moving.Moving, FullCut.is_on, Traced.terrain_of}
@@ -36,8 +37,7 @@ tally_rider p rs ns r x l h = rw (set-get_or ns r None) at (tally_set p rs ns r 
 pub tally_some : (p : Moving → Option ℕ → Bool) (rs : List Moving) (ns : List (Option ℕ)) (r : ℕ) → r < length rs
     → r < length ns → p (rider_at rs r) (note_at ns r) ≡ true → 0 < tally p rs ns
 tally_some p (q ∷ rs) (k ∷ ns) zero l h e = rw e (omega arith)
-tally_some p (q ∷ rs) (k ∷ ns) (suc r) l h e =
-    grind (arith, tally_some p rs ns r (omega arith) (omega arith) e)
+tally_some p (q ∷ rs) (k ∷ ns) (suc r) l h e = search (rules, tally_some p rs ns r (omega arith) (omega arith) e)
 tally_some p _ _ r l h e = absurd (omega arith)
 
 pub tally_none : (p : Moving → Option ℕ → Bool) (rs : List Moving) (ns : List (Option ℕ))
@@ -94,18 +94,15 @@ pub untold_is : {g : Terrain} {stood : ℕ → Bool} {ds : List ℕ} {V : ℕ �
     → ((d : ℕ) → is_among d (darts_in ns) ≡ true → stop_of g stood ds d ≡ None → or_else (straight g d) d ≢ d)
     → eqb (tally is_untold rs ns) 0 ≡ list_all (λ d. V (end_of g d)) (darts_in ns)
 untold_is {g} {stood} {ds} {V} {bs} {rs} {ns} a onward = same_test _ _ (λ e. true_from_ne_false _ (λ off.
-    let (d, m, o) = not_all (λ d. V (end_of g d)) (darts_in ns) off in
+    let (d, m, o) = not_all (λ d. V _) _ off in
     let (r, l, n) = noted_where ns d m in
     let (runs, same) = a.noted r d n in
-    search (rules, tally_some))) (λ all. eq-eqb (tally is_untold rs ns) 0 (tally_none is_untold rs ns (λ r l.
-    search (
+    search (rules, tally_some))) (λ all. eq-eqb _ 0 (tally_none is_untold rs ns (λ r l. search (
       rules,
       cases_Option (note_at ns r),
-      a.shows r,
       noted_among ns r,
       all_at (λ d. V (end_of g d)),
       was_told,
-      onward,
     ))))
   where
     -- Who was told is not untold.
@@ -159,13 +156,7 @@ one_more g stood ds x = search rules
 pub rides_low : (g : Terrain) (first : State) → ((r : ℕ) → (rider_at first.riders r).rides ≤ 0) → (k r : ℕ)
     → (rider_at (later g first k).riders r).rides ≤ k
 rides_low g first none zero r = none r
-rides_low g first none (suc k) r =
-    let s = later g first k in
-    let f = ride g s.stood (ridden s.riders) in
-    elim (cases_lt r (length s.riders)) [
-      | inl l ↦ search (rules, get_or-map, one_more, rides_low g first none k r)
-      | inr h ↦ rw (get_or_past (map f s.riders) r (begun 0) (omega (arith, h, length-map s.riders f))) (omega arith)
-    ]
+rides_low g first none (suc k) r = grind (arith, common_steps, rides_low g first none k r)
 
 -- A step from the tables, where riders wait in the queue and ride these darts.
 module _ {faces : Faces} {marks : List Bool} {k : ℕ} {riders : List Moving} {stood covered taken : List Bool}

@@ -1,8 +1,9 @@
 -- The tables and the queue before the first instant.
+use Rattle.std.proofs.lemmas.Grind.{common_steps}
 use Rattle.std.proofs.Common.{rules, ◌≡◌, ℕ, ◌≤◌, Bool, false, not, List, [], ◌∷◌, length, map, ap, ◌∙◌, arith, ◌+◌}
 use Rattle.std.proofs.Common.{◌++◌, suc, ◌-◌, ◌<◌, true, is_some, None, sym, refl, ◌||◌, inl, inr}
 use Rattle.std.proofs.lemmas.List.FromFn.{length-map-range_with_len, get_or-map-range_with_len, map-range_with_len_more}
-use Rattle.std.proofs.{lemmas.List.get_or-map, lemmas.List.length-map, lemmas.List.ext_get_or, lemmas.Bool.false≢true}
+use Rattle.std.proofs.{lemmas.List.get_or-map, lemmas.List.length-map, lemmas.List.ext_get_or}
 use Rattle.def_mesh.specs.{Faces.Faces, Manifold.IsManifold, Vertices.vertex_count, Components.start_darts, Darts.darts}
 use Rattle.def_mesh.specs.{Darts.all_darts, Darts.twin_of, Kinds.is_inner, Kinds.is_singular}
 use Rattle.def_cut.specs.Motion.{begun, State, ridden, is_among, ride}
@@ -12,7 +13,7 @@ use Rattle.def_feature.specs.{Marked.marked_starts, Marked.marked_first, Marked.
 use Rattle.feature_laws.proofs.{First.origin_of, First.marked_begin}
 use Rattle.motion_laws.proofs.Among.{apart_filter, among_range, range_among, range_apart, among_here}
 use Rattle.motion_laws.proofs.Among.{cases_List, cases_Option, from_filter, in_filter}
-use Rattle.motion_laws.proofs.Onward.{at_rest, last_rests, runs_on, finish_later, later_long}
+use Rattle.motion_laws.proofs.Onward.{at_rest, last_rests, finish_later, later_long}
 use Rattle.motion_laws.proofs.{Marks.apart_few, Shown.runs_ridden}
 use Rattle.qm_trace.specs.Tables.{IsQueue, IsGround, HaveStopped, IsEnd, IsOnItsWay, IsTableAt, is_running}
 use Rattle.qm_trace.specs.Tables.{is_closed_at, state_at}
@@ -31,11 +32,7 @@ marked_few faces marks = apart_few _ _ (apart_filter _ _ (range_apart 0 (darts f
 pub first_queue : (starts : List ℕ) (riders : List Moving) → riders ≡ map begun starts
     → IsQueue riders (range_with_len 0 (length starts))
 first_queue starts riders is = record {
-  runs = λ r m. let p = range_among 0 (length starts) r m in (
-    omega (arith, p.1, ap length is, length-map starts begun),
-    ap (λ (rs : List Moving). (rider_at rs r).stop) is
-        ∙ ap (λ (x : Moving). x.stop) (get_or-map begun starts r 0 _ (omega (arith, p.1))),
-  );
+  runs = λ r m. grind (arith, common_steps, range_among 0 (length starts) r m, get_or-map begun starts r 0);
   all = λ r l e. among_range 0 _ r (omega arith) (omega (arith, l, ap length is, length-map starts begun));
   apart = range_apart 0 _;
 }
@@ -84,9 +81,7 @@ pub none_ride : (riders : List Moving) (queue : List ℕ) → IsQueue riders que
 none_ride riders (r ∷ queue) q none = absurd (omega arith)
 none_ride riders [] q none = elim (cases_List (ridden riders)) [
   | inl is ↦ is
-  | inr (d, ds, is) ↦
-      let r = ridden_where riders d (ap (is_among d) is ∙ among_here d d ds refl) in
-      absurd (false≢true (q.all r.0 r.1 r.2))
+  | inr (d, ds, is) ↦ grind (arith, ridden_where riders d (ap (is_among d) is ∙ among_here d d ds refl))
 ]
 
 pub first_on : (faces : Faces) (marks : List Bool) → IsOnItsWay faces marks 0
@@ -98,26 +93,14 @@ pub next_on : {faces : Faces} {marks : List Bool} {k : ℕ} {riders : List Movin
     → IsOnItsWay faces marks k → IsOnItsWay faces marks (k + 1)
 next_on {queue = []} t q some way more e = absurd (omega arith)
 next_on {faces} {marks} {k} {riders} {queue = r ∷ queue} t q some way more e =
-    let p = q.runs r (among_here r r queue refl) in
-    let plus : k + 1 ≡ suc k = omega arith in
-    rw plus (search (
-      rules,
-      t.riders_are,
-      cases_List (ridden (state_at faces marks k).riders),
-      runs_ridden riders r p.0 p.1,
-      runs_on (terrain_of faces) more,
-      way (suc more),
-    ))
+    search (rules, runs_ridden riders r, way (suc more))
 
 -- Where nobody rides, the tables are those of the end.
 pub end_at : {faces : Faces} {marks : List Bool} {k : ℕ} {riders : List Moving} {stood covered taken : List Bool}
     → IsTableAt faces marks k riders stood covered taken → IsOnItsWay faces marks k → k ≤ vertex_count faces
     → ridden riders ≡ [] → IsEnd faces marks riders covered
 end_at {faces} {marks} {k} t way low none =
-    let left = suc (vertex_count faces) - k in
-    let same = sym (at_rest (terrain_of faces) left (state_at faces marks k) (sym (ap ridden t.riders_are) ∙ none))
-    ∙ way left (omega (arith, low)) in
-    search rules
+    grind (arith, at_rest (terrain_of faces) (suc (vertex_count faces) - k) (state_at faces marks k))
 
 -- After as many steps as there are vertices nobody rides.
 pub all_over : {faces : Faces} → IsManifold faces → {marks : List Bool} → AreMarks faces marks → {riders : List Moving}
@@ -129,8 +112,7 @@ all_over {faces} m {marks} marked is = ap ridden is ∙ last_rests _ (terrain _ 
 pub marks_are : (faces : Faces) (covered marks : List Bool) → length marks ≡ darts faces
     → ((d : ℕ) → d < darts faces → is_on marks d ≡ (is_on covered d || not (is_some (twin_of faces d))))
     → marks ≡ map (is_closed_at faces covered) (all_darts faces)
-marks_are faces covered marks long each = ext_get_or false marks _
-    (long ∙ sym (length-map-range_with_len (is_closed_at faces covered) 0 (darts faces)))
+marks_are faces covered marks long each = ext_get_or false _ _ (search (rules, length-map-range_with_len))
     (search (rules, get_or-map-range_with_len))
 
 -- They are the cut of a state with these covered darts.
@@ -138,8 +120,7 @@ pub cut_is : (faces : Faces) (s : State) (covered : List Bool)
     → ((d : ℕ) → d < darts faces → is_on covered d ≡ s.covered d) → map (is_closed_at faces covered) (all_darts faces)
     ≡ map (is_cut (terrain_of faces) s) (all_darts faces)
 cut_is faces s covered same = sym (marks_are faces covered (map (is_cut (terrain_of faces) s) (all_darts faces))
-    (length-map-range_with_len (is_cut (terrain_of faces) s) 0 (darts faces))
-    (search (rules, get_or-map-range_with_len)))
+    (search (rules, length-map-range_with_len)) (search (rules, get_or-map-range_with_len)))
 
 -- No rider is lost.
 pub last_long : (faces : Faces) (marks : List Bool) → length (marked_last faces marks).riders

@@ -1,5 +1,5 @@
 -- Which events are possible, and how many can still happen.
-use Rattle.std.proofs.Common.{rules, ◌≡◌, ℕ, zero, suc, ◌+◌, ◌-◌, ◌<◌, ◌≤◌, Bool, true, false, cond, List, ◌∷◌}
+use Rattle.std.proofs.Common.{rules, ◌≡◌, ℕ, zero, suc, ◌+◌, ◌<◌, ◌≤◌, Bool, true, false, cond, List, ◌∷◌}
 use Rattle.std.proofs.Common.{length, set, map, replicate, Option, Some, None, sym, ap, ◌∙◌, refl, arith, [], eqb}
 use Rattle.std.proofs.{Common.◌||◌, Common.get_or, lemmas.Bool.false≢true, Math.Bool.or-false}
 use Rattle.std.proofs.lemmas.List.{length-map, length-replicate, length-set, ext_get_or, get_or_default}
@@ -15,7 +15,7 @@ use Rattle.def_cut.specs.Views.{MotionView, IsMotionOn, with_state}
 use Rattle.motion_laws.proofs.Marks.{no_darts, from_marks, marked_long, none_on}
 use Rattle.motion_laws.proofs.{Shown.still_runs, Order.parts, Order.some_end, Onward.later_long}
 use Rattle.qm_trace.proofs.Reaching.{MayRide, Reached, as_long, more_led, reached_by, ride_runs}
-use Rattle.qm_trace.proofs.Counting.{tally_none, waiting_is, all_run, all_wait, none_untold, tally_runs, tally_set}
+use Rattle.qm_trace.proofs.Counting.{waiting_is, all_run, all_wait, none_untold, tally_set}
 use Rattle.qm_trace.proofs.Noting.{settle_low, MaySettle, Settling}
 use Rattle.qm_trace.specs.Left.{left_in, left_of, rides_of, unset}
 use Rattle.qm_trace.specs.{declared.telling.Riders.Riders, Motions.AreCounted, Motions.IsKept, Tables.IsSite}
@@ -35,18 +35,11 @@ module _ {faces : Faces} {x : EventState} (now : Reached faces x) where
           let (d, m, e) = some_end now.at v may in
           false≢true (sym (parts now.at v may).2 ∙ (ap (is_on x.settled) (sym e) ∙ on d m))
 
-  -- A vertex may be settled where nobody waits, a noted dart ends there, and it is not settled.
-  pub settle_may : (v : ℕ) → ((r : ℕ) → r < length x.riders → is_waiting (rider_at x.riders r).stop (note_at x.noted r)
-      ≡ false) → list_any (leads_to (terrain_of faces) v) (darts_in x.noted) ≡ true → is_on x.settled v ≡ false
-      → may_settle (terrain_of faces) x v ≡ true
-  settle_may v none ends off = search (rules, waiting_is, tally_none)
-
 -- Where a vertex may be settled, somebody runs.
 pub settle_not_over : {faces : Faces} {x : EventState} {v : ℕ} → MaySettle faces x v → NobodyRuns x → ⊥
 settle_not_over {faces} {x} {v} k none =
     let (d, m, e) = some_end k.now.at v k.may in
-    let q = still_runs k.now.shown.riders d m (ap (is_on x.settled) e ∙ (parts k.now.at v k.may).2) in
-    none q.0 q.1 q.2
+    search (rules, still_runs k.now.shown.riders d m (ap (is_on x.settled) e ∙ (parts k.now.at v k.may).2))
 
 -- A ride is one ride more.
 rides_set : (rs : List Moving) (r : ℕ) → r < length rs → rides_of (set rs r (ridden_once_more (rider_at rs r)))
@@ -99,11 +92,9 @@ rides_from : {faces : Faces} (es : List Event) (x y : EventState) → Reached fa
     → rides_of y.riders ≡ rides_of x.riders + rides_in es
 rides_from [] x y now led = omega (arith, ap (λ (s : EventState). rides_of s.riders) led)
 rides_from (Ride r ∷ es) x y now led =
-    let rest = rides_from es _ y (reached_by now.mesh _ (more_led now (Ride r) led.0)) led.1 in
-    omega (arith, rest, rides_set x.riders r led.0.0)
+    search (rules, rides_set, rides_from es _ y (reached_by now.mesh _ (more_led now (Ride r) led.0)) led.1)
 rides_from (Settle v ∷ es) x y now led =
-    let rest = rides_from es _ y (reached_by now.mesh _ (more_led now (Settle v) led.0)) led.1 in
-    omega (arith, rest, settle_rides now v)
+    search (rules, settle_rides, rides_from es _ y (reached_by now.mesh _ (more_led now (Settle v) led.0)) led.1)
 
 -- They are no more than the darts.
 rides_few : {faces : Faces} {x : EventState} → Reached faces x → rides_of x.riders ≤ darts faces
@@ -114,14 +105,13 @@ rides_few {faces} {x} now =
 
 pub ride_less : {faces : Faces} {x : EventState} {r : ℕ} → MayRide faces x r
     → left_of faces (after_ride_of (terrain_of faces) x r) < left_of faces x
-ride_less {faces} {x} {r} k =
-    let more = rides_set x.riders r k.low in
-    let few = rides_few (reached_by k.now.mesh (after_ride_of (terrain_of faces) x r)
-    (more_led k.now (Ride r) (k.low, k.may))) in
-    let b = darts faces - suc (rides_of x.riders) in
-    let here : darts faces - rides_of x.riders ≡ suc b = omega (arith, more, few) in
-    let some = left_few (darts_in (after_ride_of (terrain_of faces) x r).noted) x.settled in
-    rw (here, more) (omega (arith, some))
+ride_less {faces} {x} {r} k = grind (
+  arith,
+  rides_set x.riders r k.low,
+  rides_few (reached_by k.now.mesh
+      (after_ride_of (terrain_of faces) x r) (more_led k.now (Ride r) (k.low, k.may))),
+  left_few (darts_in (after_ride_of (terrain_of faces) x r).noted) x.settled,
+)
 
 by_noted : (faces : Faces) (v : ℕ) (ds : List ℕ) (settled : List Bool)
     → list_any (leads_to (terrain_of faces) v) ds ≡ true → left_in ds settled ≡ suc (unset settled)
@@ -144,10 +134,7 @@ settle_less {faces} {x} {v} may =
       length-set,
       here,
       by_noted faces v (darts_in x.noted) (set x.settled v true) (parts may.now.at v may.may).1,
-    ) (omega (
-      arith,
-      unset_set x.settled v (omega (arith, settle_low may, may.now.shown.settled_long)) (parts may.now.at v may.may).2,
-    ))
+    ) (omega (arith, unset_set x.settled v (omega (arith, settle_low may)) (parts may.now.at v may.may).2))
 
 -- What the calls of a motion make of its tables.
 
@@ -162,15 +149,11 @@ pub first_stood : {faces : Faces} → IsManifold faces → {nowhere stood : List
     → stood ≡ marked_from (terrain_of faces) (start_darts faces) (replicate (vertex_count faces) false)
 first_stood {faces} m {nowhere} {stood} {starts} is long same each =
     let nobody = replicate (vertex_count faces) false in
-    ext_get_or false stood _ (search (rules, marked_long)) (λ v l. each v ∙ rw (
+    ext_get_or _ _ _ (search (rules, marked_long)) (λ v l. each v ∙ rw (
       is,
       same,
-      from_marks (terrain_of faces) (start_darts faces) nobody v (λ d n. omega (
-        arith,
-        all_below faces d ((started faces m).low d n),
-        length-replicate (vertex_count faces) false,
-      )),
-      none_on (vertex_count faces) v,
+      from_marks (terrain_of faces) (start_darts faces) nobody v (search (rules, all_below, started, length-replicate)),
+      none_on _ v,
     ) (sym (or-false _)))
 
 pub first_counted : {riders : Riders} {noted : List (Option ℕ)} (starts : List ℕ) → riders.list.items ≡ map begun starts
@@ -186,9 +169,6 @@ first_waits (d ∷ starts) = ap suc (first_waits starts)
 -- At the end of an instant all who run wait again.
 module _ {riders : Riders} {noted new : List (Option ℕ)} (k : AreCounted riders noted)
     (is : new ≡ replicate (length noted) None) where
-  pub counted_again : riders.untold ≡ 0 → AreCounted riders new
-  counted_again none = search (rules, length-replicate, tally_runs, none_untold)
-
   pub waits_again : riders.running ≡ waiting riders.list.items new
   waits_again = search (rules, all_wait)
 
@@ -221,8 +201,7 @@ rides m is on r low may = search (rules, reached_by m _ on.reached, riders_long 
 pub event_on : {faces : Faces} → IsManifold faces → {motion : MotionView} → IsMotionOn faces motion → (e : Event)
     → May (terrain_of faces) motion.state e → {new : MotionView}
     → new ≡ with_state motion (after_event (terrain_of faces) motion.state e) → IsMotionOn faces new
-event_on m on e may is =
-    rw is (record { reached = more_led (reached_by m _ on.reached) e may; started = on.started })
+event_on m on e may is = search (rules, more_led (reached_by m _ on.reached) e may)
 
 -- Such a rider, where it was read.
 pub as_read : {faces : Faces} {x : EventState} {r : ℕ} {read : Moving} → MayRide faces x r

@@ -2,7 +2,7 @@
 use Rattle.std.proofs.Common.{rules, ◌≡◌, ◌≢◌, ℕ, suc, ◌+◌, ◌<◌, ◌≤◌, Bool, true, false, cond, eqb, List, ◌∷◌, ◌++◌}
 use Rattle.std.proofs.Common.{length, get_or, set, take, replicate, Option, Some, None, sym, subst, ap, ◌∙◌, refl, inl}
 use Rattle.std.proofs.Common.{inr, arith, [], not}
-use Rattle.std.proofs.lemmas.{Bool.cases_eq, Bool.eq-eqb, Bool.false≢true, Bool.false_from_ne_true}
+use Rattle.std.proofs.lemmas.{Bool.eq-eqb, Bool.false≢true, Bool.false_from_ne_true}
 use Rattle.std.proofs.lemmas.{Bool.eqb-true, List.get_or-set_same, List.get_or-set_other, List.length-set}
 use Rattle.std.proofs.lemmas.{List.length-replicate, List.get_or_default, List.ext_get_or}
 use Rattle.std.proofs.lemmas.Option.{none-some, same_Some}
@@ -12,7 +12,7 @@ use Rattle.def_cut.specs.Motion.{is_among, State, ridden, stop_of, or_else, stra
 use Rattle.def_cut.specs.Events.{darts_in, note_at, EventState, waiting, rider_at, leads_to, may_settle}
 use Rattle.def_cut.specs.Events.{decided_at, are_ends_settled, after_settling, ridden_once_more}
 use Rattle.def_cut.specs.{FullCut.is_on, Traced.terrain_of}
-use Rattle.motion_laws.proofs.Marks.{among_append, among_at, apart_append, apart_few, mark_is, no_darts, noted_among}
+use Rattle.motion_laws.proofs.Marks.{among_append, among_at, apart_append, apart_few, no_darts, noted_among}
 use Rattle.motion_laws.proofs.Marks.{noted_more, noted_short, noted_where}
 use Rattle.motion_laws.proofs.Order.{all_ridden, ends_then, parts, reached, since, some_end, stood_then, told_riders}
 use Rattle.motion_laws.proofs.Order.{v_low}
@@ -36,11 +36,10 @@ pub has_room : (notes : Notes) (r : ℕ) → AreNotes notes → r < length notes
     ≡ None → length notes.queue.items < vec_capacity notes.queue
 has_room notes r are low fresh = omega (
   arith,
-  are.room,
   apart_few (length notes.noted.items) (r ∷ notes.queue.items) (
     false_from_ne_true _ (λ a. let d = are.queue_is r a in none-some d.0 (sym fresh ∙ d.1)),
     are.queue_apart,
-  ) (λ q a. search (rules, among_cases q r notes.queue.items a, are.queue_is, noted_short)),
+  ) (λ q a. search (rules, noted_short)),
 )
 
 -- One note more.
@@ -51,17 +50,14 @@ pub one_note : (notes new : Notes) (r d : ℕ) → AreNotes notes → r < length
     → vec_capacity notes.queue ≤ vec_capacity new.queue → AreNotes new
 one_note notes new r d are low d_low fresh alone is_noted is_taken is_places is_queue room = record {
   places_long = search rules;
-  taken_is = λ e. search (rules, mark_is, are.taken_is, noted_more);
+  taken_is = λ e. search (rules, noted_more);
   slot = λ q e n. grind (
     arith,
-    rw is_noted at n,
-    cases_eq q r,
     get_or-set_same notes.noted.items r (Some d) None low,
     get_or-set_other notes.noted.items r q (Some d) None,
     get_or-set_same notes.places.items d r 0,
     get_or-set_other notes.places.items d e r 0,
     noted_among notes.noted.items q e,
-    are.slot q e,
   );
   queue_has = search (rules, any_snoc);
   queue_is = λ q a. rw is_noted (elim (among_append q notes.queue.items (r ∷ []) (rw is_queue at a)) [
@@ -71,7 +67,7 @@ one_note notes new r d are low d_low fresh alone is_noted is_taken is_places is_
         [ inl s ↦ (d, rw s (get_or-set_same notes.noted.items r (Some d) None low)) | inr c ↦ absurd (false≢true c) ]
   ]);
   queue_apart = search (rules, apart_append);
-  room = omega (arith, are.room, room, ap length is_noted, length-set notes.noted.items r (Some d));
+  room = omega (arith, ap length is_noted, length-set notes.noted.items r (Some d));
 }
   where
     -- Who is in the queue is another rider, since r had no note.
@@ -89,8 +85,7 @@ are_none notes ns is off long empty room = record {
   queue_has = λ r d n. absurd (none d (noted_among notes.noted.items r d n));
   queue_is = λ r a. absurd (false≢true (sym (ap (is_among r) empty) ∙ a));
   queue_apart = subst AreEachOnce (sym empty) tt;
-  room = let e : length notes.noted.items ≡ length ns = ap length is ∙ length-replicate (length ns) None in
-      omega (arith, room, e);
+  room = search (rules, length-replicate);
 }
   where
     none : (d : ℕ) → is_among d (darts_in notes.noted.items) ≡ true → ⊥

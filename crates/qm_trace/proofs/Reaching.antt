@@ -5,7 +5,7 @@ use Rattle.def_mesh.specs.{Faces.Faces, Darts.darts, Manifold.IsManifold, Vertic
 use Rattle.def_cut.specs.Events.{EventState, darts_in, rider_at, note_at, may_ride, after_event, Event, May, Leads}
 use Rattle.def_cut.specs.{Events.rides_in, Events.IsMotionOf, declared.moving.Moving.Moving, Traced.terrain_of}
 use Rattle.def_cut.specs.Motion.{Terrain, ridden, is_among, start}
-use Rattle.motion_laws.proofs.Order.{IsWithin, noted_low, reached, rode, since, steps_few, within}
+use Rattle.motion_laws.proofs.Order.{IsWithin, reached, rode, since, steps_few, within}
 use Rattle.motion_laws.proofs.Shown.{apart_later, runs_ridden, bare, waits_runs}
 use Rattle.{motion_laws.proofs.Among.AreApart, motion_laws.proofs.Marks.noted_where, site_laws.proofs.Sites.course}
 use Rattle.{qm_trace.proofs.Counting.begun_low, qm_trace.proofs.Counting.rides_low}
@@ -60,9 +60,6 @@ module _ {faces : Faces} {x : EventState} {r : ℕ} (k : MayRide faces x r) wher
 
   pub ride_dart : (rider_at x.riders r).dart < darts faces
   ride_dart = (reached at).low rider.dart (rode at r low may).1
-
-  pub ride_noted : r < length x.noted
-  ride_noted = noted_low at r low may
 
   -- The rider is as it was when the instant began.
   as_begun : rider ≡ rider_at (since at).riders r

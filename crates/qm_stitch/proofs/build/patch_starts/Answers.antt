@@ -1,4 +1,5 @@
-use Rattle.std.proofs.Common.{rules, ◌≡◌, ◌-◌, ◌*◌, length, sym, arith}
+use Rattle.std.proofs.lemmas.Grind.{common_steps}
+use Rattle.std.proofs.Common.{rules, ◌≡◌, ◌-◌, ◌*◌, length, arith}
 use Rattle.{std.proofs.lemmas.List.length-map, qm_offsets.proofs.Spots.next_room, qm_offsets.proofs.Spots.term_room}
 use Rattle.{def_remesh.specs.Numberings.tables_of, qm_offsets.specs.Fours.begins_of}
 use Rattle.{qm_stitch.specs.Sizes.product_by, qm_stitch.proofs.build.patch_starts.Goals.After-last_of-in-loop-patch}
@@ -19,14 +20,12 @@ overflow_mul-wide c = omega (
 )
 
 pub push_start-requires-clause-small : goal.push_start-requires-clause-small
-push_start-requires-clause-small c = omega (
+push_start-requires-clause-small c = grind (
   arith,
-  product (goal.at.push_start-requires-clause-small c).After-last_of-in-loop-patch,
-  next_room (product_by (tables_of c.args.sides.now) c.args.less) (length (tables_of c.args.sides.now))
-      c.loop-patch.patch c.loop-patch.starts.begin.items
-      (omega (arith, length-map c.args.sides.now begins_of)) c.loop-patch.invariant,
+  common_steps,
+  next_room (product_by (tables_of c.args.sides.now)
+      c.args.less) (length (tables_of c.args.sides.now)) c.loop-patch.patch c.loop-patch.starts.begin.items,
 )
 
 pub loop-patch-preserved : goal.loop-patch-preserved
-loop-patch-preserved c = c.in_ok-push_start.ensures _ _ c.loop-patch.invariant
-    (sym (product (goal.at.loop-patch-preserved c).After-last_of-in-loop-patch))
+loop-patch-preserved c = c.in_ok-push_start.ensures _ _ c.loop-patch.invariant (search rules)

@@ -1,6 +1,7 @@
-use Rattle.std.proofs.Common.{◌≡◌, ℕ, ◌≤◌, List, arith}
+use Rattle.std.proofs.lemmas.Grind.{common_steps}
+use Rattle.std.proofs.Common.{rules, ◌≡◌, ℕ, ◌≤◌, List, arith}
 use Rattle.{def_layout.specs.Layouts.layout_of, def_remesh.specs.Numberings.tables_of}
-use Rattle.{def_remesh.specs.declared.tables.RunStarts.RunStarts, qm_stitch.proofs.Grids.counts}
+use Rattle.{def_remesh.specs.declared.tables.RunStarts.RunStarts}
 use Rattle.qm_stitch.{specs.Sizes.AreRows, specs.Sizes.IsFine, proofs.build.tables.Goals.In_ok-sides}
 use Rattle.qm_stitch.proofs.Built.{built, few_points, lengths_short, points_short, rows, sides_short}
 use Rattle.qm_stitch.proofs.build.tables.Goals as goal
@@ -9,12 +10,10 @@ pub short_lengths-requires : goal.short_lengths-requires
 short_lengths-requires c = lengths_short c.requires.fine
 
 pub side_tables-requires-clause-small : goal.side_tables-requires-clause-small
-side_tables-requires-clause-small c p s low =
-    rw (c.deref.ensures.value, c.in_ok-lengths.ensures) (sides_short c.requires.fine p s (omega counts))
+side_tables-requires-clause-small c p s low = grind (arith, common_steps, sides_short c.requires.fine p s)
 
 pub inner_points-requires-clause-small : goal.inner_points-requires-clause-small
-inner_points-requires-clause-small c =
-    rw (c.deref-2.ensures.value, c.in_ok-lengths.ensures) (points_short c.requires.fine)
+inner_points-requires-clause-small c = search (rules, points_short c.requires.fine)
 
 -- The sides are as long as their tables say.
 rows_of : (c : In_ok-sides) {sides : List (List RunStarts)} → sides ≡ c.in_ok-sides.sides.items → (less : ℕ)

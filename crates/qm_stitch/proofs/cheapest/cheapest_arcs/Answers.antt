@@ -12,9 +12,7 @@ pub returns : goal.returns
 returns c =
     let many = length c.args.numbered.now.t.now.arcs.items in
     let blank : c.deref_mut.result.now ≡ replicate many false = search rules in
-    rw (with_items_is c.in_ok-chosen.chosen c.mark_firsts.new.chosen
-    (c.mark_firsts.auto.chosen ∙ c.deref_mut.ensures.len)) (marks_of c.deref.result.now
-    (rw c.deref.ensures.value c.sort.ensures.moved) (rw c.deref.ensures.value c.sort.ensures.ordered)
-    c.deref_mut.result.now
+    rw (with_items_is c.in_ok-chosen.chosen _ (c.mark_firsts.auto.chosen ∙ c.deref_mut.ensures.len))
+    (marks_of _ (rw c.deref.ensures.value c.sort.ensures.moved) (rw c.deref.ensures.value c.sort.ensures.ordered) _
     (omega (counts, ap length blank, length-replicate many false)) c.mark_firsts.auto.chosen
-    (λ arc low. rw blank (get_or-replicate many arc false false (omega counts))) c.mark_firsts.ensures)
+    (λ arc low. rw blank (get_or-replicate many _ _ _ (omega counts))) c.mark_firsts.ensures)

@@ -11,13 +11,12 @@ use Rattle.qm_stitch.proofs.count.count_faces.Goals as goal
 few : (t : TMesh) (x : ℕ → ℕ) (is : IsSomeLayout (layout_of t)) → ((a : ℕ) → x a ≤ 10 ^ 12) → (p : ℕ)
     → p < length t.patches.items → cells_before (gluing_of (layout_of t)) x (suc p) < 2 ^ 128
 few t x is most p low =
-    let l = gluing_of (layout_of t) in
-    let old = long_at (layout_of t).arcs in
+    let l = gluing_of _ in
+    let old = long_at _ in
     let upto : suc p ≤ length (layout_of t).patches = omega counts in
-    let all : cells_before l old (suc p) ≤ face_count l old = count_rises _ (suc p) _ upto in
-    let most =
-    cells_most l old x (10 ^ 12) (laid_of (layout_of t) is) (lengths_of (layout_of t) is) most (suc p) upto in
-    omega (arith, old_faces (layout_of t) is)
+    let all : cells_before l old (suc p) ≤ face_count l old = count_rises _ _ _ upto in
+    let most = cells_most l old x _ (laid_of (layout_of t) is) (lengths_of (layout_of t) is) most _ upto in
+    omega (arith, old_faces _ is)
 
 product : (c : goal.After-from-in-loop-patch) → c.from.result * c.from-in-loop-patch.result
     ≡ wide (gluing_of (layout_of c.args.stretched.now.t.now)) (lengths_in c.args.stretched.now.lengths.now)
@@ -29,8 +28,7 @@ product c = λ i. (c.from.ensures ∙ c.size_on-wide.ensures south refl) i
 pub overflow_add-faces : goal.overflow_add-faces
 overflow_add-faces c =
     let s = c.args.stretched.now in
-    let low : c.loop-patch.patch < length s.t.now.patches.items = omega arith in
-    omega (arith, product c, few s.t.now (lengths_in s.lengths.now) c.requires.layout s.bounded c.loop-patch.patch low)
+    grind (arith, product c, few s.t.now (lengths_in s.lengths.now) c.requires.layout s.bounded c.loop-patch.patch)
 
 pub loop-patch-preserved : goal.loop-patch-preserved
 loop-patch-preserved c = search (rules, product)

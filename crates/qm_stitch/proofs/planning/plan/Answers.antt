@@ -1,10 +1,9 @@
-use Rattle.{def_layout.specs.Layouts.layout_of, qm_stitch.proofs.Grids.counts}
+use Rattle.{qm_stitch.proofs.Grids.counts}
 use Rattle.qm_stitch.proofs.SafeLengths.{safe_undoubled, shapes_kept}
 use Rattle.qm_stitch.proofs.planning.plan.Goals as goal
 
 pub returns-then-are_safe-clause-undoubled : goal.returns-then-are_safe-clause-undoubled
-returns-then-are_safe-clause-undoubled c = safe_undoubled (layout_of c.args.t.now) c.args.lengths.now
-    (omega counts) c.requires.layout c.requires.lengths
+returns-then-are_safe-clause-undoubled c = safe_undoubled _ _ (omega counts) c.requires.layout c.requires.lengths
     (c.are_safe.ensures.0 c.if-are_safe.true)
 
 pub returns-then-are_safe-clause-shape : goal.returns-then-are_safe-clause-shape

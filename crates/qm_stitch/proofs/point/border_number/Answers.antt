@@ -1,6 +1,6 @@
-use Rattle.std.proofs.Common.{◌<◌, length}
+use Rattle.std.proofs.Common.{rules, ◌<◌, length}
 use Rattle.{def_layout.specs.Layouts.layout_of, def_layout.specs.Layouts.way_number, qm_offsets.proofs.Whole.way_for}
-use Rattle.qm_stitch.proofs.Grids.{counts, long_is, side_low}
+use Rattle.qm_stitch.proofs.Grids.{counts, side_low}
 use Rattle.qm_stitch.proofs.point.border_number.Goals as goal
 
 pub invariant_of-border : goal.invariant_of-border
@@ -16,10 +16,7 @@ invariant_of-border c =
     })
 
 pub side_number-requires : goal.side_number-requires
-side_number-requires c =
-    let (way, same) = way_for c.args.side c.requires.side in
-    let upto = rw (← same) at c.requires.upto in
-    rw (c.side_of.ensures, ← same) (omega (counts, upto, long_is c.args.numbered.now.numbers c.args.patch way))
+side_number-requires c = search rules
 
 pub returns : goal.returns
 returns c = rw c.side_of.ensures at c.side_number.ensures

@@ -6,8 +6,7 @@ here : (c : After-spot_in-at) → IsThere c.args.side.now.numbered.numbers c.arg
     c.args.side.now.starts.now c.args.place c.spot_in-at.result
 here c =
     let side = c.args.side.now in
-    let run = c.spot_in-at.ensures.run _ _ side.begun in
-    there side.numbered.numbers side.arcs.now side.some side.begun c.requires run
+    there side.numbered.numbers side.arcs.now side.some side.begun c.requires (c.spot_in-at.ensures.run _ _ side.begun)
 
 pub overflow_sub-place : goal.overflow_sub-place
 overflow_sub-place c = (here (goal.at.overflow_sub-place c).After-spot_in-at).from

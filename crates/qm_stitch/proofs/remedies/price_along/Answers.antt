@@ -13,12 +13,6 @@ more x prices uses i d low = ap (price_along x prices) (take_more uses i d low) 
 pub loop-used-preserved : Rattle.qm_stitch.proofs.remedies.price_along.Goals.loop-used-preserved
 loop-used-preserved c =
     let x = lengths_by c.args.priced.now.keyed.numbered in
-    let e = more x c.args.priced.now.prices.now c.args.uses.now c.loop-used.used-index
-    (record { arc = 0; forward = false }) c.loop-used-test.true in
-    let back : to_z w64 (of_z w64 c.short_price.result) ≡ c.short_price.result =
-    to_z-of_z w64 c.short_price.result (search rules) in
-    record {
-      sum = omega (arith, ints, e, back, c.short_price.ensures, c.from-price.ensures);
-      low = omega (arith, ints);
-      high = omega (arith, ints);
-    }
+    let e = more x c.args.priced.now.prices.now _ _ (record { arc = 0; forward = false }) c.loop-used-test.true in
+    let back : to_z w64 (of_z w64 c.short_price.result) ≡ c.short_price.result = to_z-of_z w64 _ (search rules) in
+    record { sum = omega (arith, ints, c.from-price.ensures); low = omega (arith, ints); high = omega (arith, ints) }

@@ -1,14 +1,12 @@
-use Rattle.std.proofs.{Common.sym, Common.◌∙◌, Common.arith, Common.rules, Common.w64, lemmas.Bool.false≢true}
+use Rattle.std.proofs.{Common.◌∙◌, Common.arith, Common.rules, Common.w64}
 use mir.Syntax.{w128}
-use Rattle.qm_stitch.proofs.{Grids.counts, Lines.arc_both, Lines.none_along, TightEdges.end_is}
+use Rattle.qm_stitch.proofs.{Grids.counts, Lines.arc_both, TightEdges.end_is}
 use Rattle.qm_stitch.proofs.DoubledPairs.{told_next, told_none, told_so}
-use Rattle.{qm_stitch.specs.declared.remedy.Run.TheVariants.Arc, std.proofs.lemmas.Int.to_z-of_z}
+use Rattle.{std.proofs.lemmas.Int.to_z-of_z}
 use Rattle.qm_stitch.proofs.remedies.push_arc.Goals as goal
 
 pub returns-then-not-is_short_arc : goal.returns-then-not-is_short_arc
-returns-then-not-is_short_arc c r = told_none (none_along c.args.priced.now (Arc c.args.arc)
-    (λ is. false≢true (sym c.if-not-is_short_arc.true ∙ c.is_short_arc.ensures.1
-    (rw is.1 is.2))) r)
+returns-then-not-is_short_arc c r = told_none (search rules)
 
 pub loop-k-init : goal.loop-k-init
 loop-k-init c r = told_none (λ is. omega arith)

@@ -1,8 +1,8 @@
-use Rattle.std.proofs.{Common.sym, Common.◌∙◌, Common.arith, Common.rules, lemmas.Int.to_z-of_z, lemmas.Bool.false≢true}
+use Rattle.std.proofs.{Common.◌∙◌, Common.arith, Common.rules, lemmas.Int.to_z-of_z}
 use mir.Syntax.{w128}
 use Rattle.qm_stitch.proofs.{RiseLists.uses_tell, Lines.none_along, Lines.side_both, Grids.counts, Grids.uses_low}
 use Rattle.qm_stitch.proofs.DoubledPairs.{told_next, told_none, told_so}
-use Rattle.qm_stitch.specs.{declared.remedy.Run.TheVariants.Side as side_run, Lengthened.lengths_by}
+use Rattle.qm_stitch.specs.{declared.remedy.Run.TheVariants.Side as side_run}
 use Rattle.{def_layout.specs.Layouts.layout_of, written_laws.proofs.Sides.size_some}
 use Rattle.qm_stitch.proofs.remedies.push_side.Goals as goal
 
@@ -15,10 +15,7 @@ price_along-price-requires c = search (rules, uses_low)
 pub returns-then-not-is_some_short : goal.returns-then-not-is_some_short
 returns-then-not-is_some_short c r =
     let numbered = c.args.priced.now.keyed.numbered in
-    let told = uses_tell (layout_of numbered.t.now) (lengths_by numbered) c.args.patch c.args.side
-    c.side_of-uses.ensures c.is_some_short.ensures in
-    told_none (none_along c.args.priced.now (side_run c.args.patch c.args.side)
-    (λ short. false≢true (sym c.if-not-is_some_short.true ∙ told.1 short)) r)
+    told_none (none_along c.args.priced.now (side_run c.args.patch c.args.side) (search rules) r)
 
 pub loop-number-init : goal.loop-number-init
 loop-number-init c =
@@ -43,9 +40,7 @@ loop-number-preserved c = record {
 pub returns : goal.returns
 returns c r =
     let numbered = c.args.priced.now.keyed.numbered in
-    let told = uses_tell (layout_of numbered.t.now) (lengths_by numbered) c.args.patch c.args.side
-    c.side_of-uses.ensures c.is_some_short.ensures in
+    let told = uses_tell (layout_of numbered.t.now) _ _ _ c.side_of-uses.ensures c.is_some_short.ensures in
     let cost = rw c.side_of-uses.ensures at c.price_along-price.ensures in
     told_so (c.loop-number.invariant.adds r) (side_both c.args.priced.now c.args.patch c.args.side c.loop-number.number
-    _ c.requires.side (omega arith) (to_z-of_z w128 _ (search rules) ∙ cost)
-    (told.0 c.if-not-is_some_short.false) r)
+    _ c.requires.side (omega arith) (to_z-of_z w128 _ (search rules) ∙ cost) (told.0 c.if-not-is_some_short.false) r)

@@ -1,4 +1,4 @@
-use Rattle.std.proofs.Common.{rules, ◌≡◌, ◌-◌, ◌+◌, not, arith}
+use Rattle.std.proofs.Common.{rules, ◌≡◌, ◌-◌, ◌+◌, arith}
 use Rattle.def_layout.specs.{Lengths.size}
 use Rattle.qm_stitch.specs.{Rims.along_lines, Rims.key_of, Rims.line_ends, Lengthened.gluing_in, Lengthened.lengths_by}
 use Rattle.{qm_stitch.proofs.Grids.counts, qm_stitch.proofs.RimEdges.parts_next, written_laws.proofs.Sides.size_some}
@@ -8,9 +8,7 @@ pub loop-number-init : goal.loop-number-init
 loop-number-init c = search (rules, counts, size_some)
 
 pub push_line-requires : goal.push_line-requires
-push_line-requires c =
-    let long = c.size_at-number-end.ensures (along_lines (not c.args.upright)) c.side_along.ensures.side in
-    record { line = omega counts }
+push_line-requires c = record { line = omega counts }
 
 pub loop-number-preserved : goal.loop-number-preserved
 loop-number-preserved c =

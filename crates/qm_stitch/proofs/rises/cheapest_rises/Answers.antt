@@ -16,9 +16,8 @@ returns c =
     let marks = rw (← c.deref-2.ensures.value) at c.in_ok-chosen.ensures in
     let told = rw c.deref.ensures.value at c.is_any-some.ensures in
     record {
-      needed = IfOk-weaker c.rises_by.result _ _
-          (λ rises risen. choice_needed priced.prices.now paved long found marks told risen priced.short)
-          c.rises_by.ensures;
-      cheapest = IfOk-weaker c.rises_by.result _ _
-          (λ rises risen. choice_follows priced.prices.now paved long found marks told risen) c.rises_by.ensures;
+      needed = IfOk-weaker _ _ _ (λ rises risen. choice_needed priced.prices.now paved long found marks told risen
+          priced.short) c.rises_by.ensures;
+      cheapest = IfOk-weaker _ _ _
+          (λ rises risen. choice_follows _ paved long found marks told risen) c.rises_by.ensures;
     }

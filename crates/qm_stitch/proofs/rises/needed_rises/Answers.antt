@@ -1,5 +1,5 @@
 use Rattle.qm_stitch.proofs.{Grids.counts, Grids.tables_are, SafeLengths.safe_undoubled}
-use Rattle.{std.proofs.Common.◌∙◌, std.proofs.Common.inl, def_layout.specs.Layouts.layout_of}
+use Rattle.{std.proofs.Common.◌∙◌, std.proofs.Common.inl}
 use Rattle.qm_stitch.proofs.rises.needed_rises.Goals as goal
 
 pub invariant_of-numbered : goal.invariant_of-numbered
@@ -12,8 +12,7 @@ pub invariant_of-priced : goal.invariant_of-priced
 invariant_of-priced c = record {
   same = c.in_ok-tables.ensures.lengths;
   few = c.requires.few;
-  short = λ all.
-      safe_undoubled (layout_of c.args.t.now) c.args.lengths.now (omega counts) c.requires.layout c.requires.lengths
-      (inl (λ arc low. all arc (omega counts))) c.requires.doubled.0 c.requires.doubled.1 c.requires.doubled.2;
+  short = λ all. safe_undoubled _ _ (omega counts) c.requires.layout c.requires.lengths
+      (inl (λ arc low. all arc (omega counts))) _ _ c.requires.doubled.2;
   many = c.requires.prices ∙ c.requires.long;
 }

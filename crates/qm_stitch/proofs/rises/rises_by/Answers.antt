@@ -1,13 +1,11 @@
+use Rattle.std.proofs.Common.{rules}
 use Rattle.qm_stitch.proofs.rises.rises_by.Goals.{in-Some+in_ok-push, in_default}
 use Rattle.{std.proofs.Common.refl, qm_stitch.proofs.RiseLists.rises_too, qm_stitch.proofs.RiseLists.stays}
 
 pub loop-arc-preserved : Rattle.qm_stitch.proofs.rises.rises_by.Goals.loop-arc-preserved
 loop-arc-preserved c = elim c.match-floor_of.branch [
   | in-Some+in_ok-push w ↦ rw (w.rises-is, w.in_ok-push.ensures.items)
-      (rises_too c.args.some c.args.marked.now.tight.now c.args.marked.now.lengths.now c.loop-arc.arc
-      (record { arc = c.loop-arc.arc; floor = w.in-Some.floor }) c.loop-arc.rises.items c.loop-arc.invariant refl
+      (rises_too _ _ _ _ (record { arc = c.loop-arc.arc; floor = w.in-Some.floor }) _ c.loop-arc.invariant refl
       c.loop-arc-test.true ((c.floor_of.ensures w.in-Some.floor).0 w.in-Some.is))
-  | in_default w ↦ rw w.rises-is (stays c.args.some c.args.marked.now.tight.now c.args.marked.now.lengths.now
-      c.loop-arc.arc c.loop-arc.rises.items c.loop-arc.invariant
-      (λ floor is. cc (w.in_default.is, (c.floor_of.ensures floor).1 is)))
+  | in_default w ↦ rw w.rises-is (stays _ _ _ _ _ c.loop-arc.invariant (search rules))
 ]

@@ -1,4 +1,4 @@
-use Rattle.std.proofs.Common.{◌≡◌, ◌↔◌, ◌+◌, ◌∷◌, ◌++◌, [], ℕ, true, false, get_or, below_more, ap, ◌∙◌, arith}
+use Rattle.std.proofs.Common.{rules, ◌≡◌, ◌↔◌, ◌+◌, ◌∷◌, ◌++◌, [], ℕ, true, false, get_or, below_more, ap, ◌∙◌, arith}
 use Rattle.std.proofs.lemmas.{List.get_or_append_left, List.get_or_push, List.length_push}
 use Rattle.qm_stitch.specs.{Lengthened.gluing_in, Lengthened.lengths_by, Tight.IsDoubledOn}
 
@@ -8,7 +8,5 @@ loop-arc-preserved c = rw c.in_ok-push.ensures.items (record {
   each = below_more (λ (a : ℕ). (get_or (c.loop-arc.on.items ++ c.is_doubled_on.result ∷ []) a false ≡ true) ↔
       IsDoubledOn (gluing_in c.args.keyed.now.numbered) (lengths_by c.args.keyed.now.numbered) a) c.loop-arc.arc
       (λ a low. rw (get_or_append_left c.loop-arc.on.items (c.is_doubled_on.result ∷ []) false a
-      (omega (arith, low, c.loop-arc.invariant.long))) (c.loop-arc.invariant.each a low))
-      (rw (get_or_push c.loop-arc.on.items c.is_doubled_on.result false c.loop-arc.arc c.loop-arc.invariant.long)
-      c.is_doubled_on.ensures);
+      (omega (arith, low, c.loop-arc.invariant.long))) (c.loop-arc.invariant.each a low)) (search (rules, get_or_push));
 })

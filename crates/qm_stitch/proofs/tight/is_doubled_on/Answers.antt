@@ -1,3 +1,4 @@
+use Rattle.std.proofs.lemmas.Grind.{common_steps}
 use Rattle.std.proofs.Common.{◌≡◌, ◌↔◌, ℕ, refl, sym, below_more, ◌∙◌, true, arith}
 use Rattle.qm_stitch.proofs.{TightEdges.end_is, TightEdges.key_tells, tight.is_doubled_on.Goals.After-is_repeat}
 use Rattle.qm_stitch.specs.{Lengthened.gluing_in, Lengthened.lengths_by, Tight.IsDoubled}
@@ -14,8 +15,7 @@ told c =
 
 pub returns-then-is_repeat : goal.returns-then-is_repeat
 returns-then-is_repeat c =
-    let w = (goal.at.returns-then-is_repeat c).After-is_repeat in
-    (λ on. (c.loop-k.k, (told w).0 c.if-is_repeat.true), λ has. refl)
+    (λ on. (c.loop-k.k, (told ((goal.at.returns-then-is_repeat c).After-is_repeat)).0 c.if-is_repeat.true), λ has. refl)
 
 pub loop-k-preserved : goal.loop-k-preserved
 loop-k-preserved c =
@@ -24,9 +24,4 @@ loop-k-preserved c =
     (on_arc c.args.arc k)) _ c.loop-k.invariant (λ is. false≢true (sym c.if-is_repeat.false ∙ (told w).1 is))
 
 pub returns : goal.returns
-returns c = (
-  λ on. absurd (false≢true on),
-  λ (k, is).
-      let long = end_is c.args.keyed.now.numbered c.requires.arc c.index-k-end.ensures in
-      absurd (c.loop-k.invariant k (omega (arith, long)) is),
-)
+returns c = (λ on. absurd (false≢true on), λ (k, is). grind (arith, common_steps, c.loop-k.invariant k))

@@ -1,4 +1,4 @@
-use Rattle.{std.proofs.Common.inl, qm_stitch.specs.Rims.along_lines}
+use Rattle.{std.proofs.Common.inl}
 use Rattle.qm_stitch.proofs.{DoubledPairs.told_first, TightEdges.line_tells}
 use Rattle.qm_stitch.proofs.tight.is_line_doubled.Goals as goal
 
@@ -9,8 +9,6 @@ returns-then-is_repeat c = (
 )
 
 pub returns-else-is_repeat : goal.returns-else-is_repeat
-returns-else-is_repeat c =
-    let long = c.size_at-last.ensures (along_lines c.args.line.upright) c.side_along.ensures.side in
-    told_first (rw c.key_at.ensures at c.is_repeat.ensures)
-    (rw (c.key_at-else-is_repeat.ensures, long) at c.is_repeat-else-is_repeat.ensures) c.if-is_repeat.false
-    (line_tells c.args.keyed.now c.requires.line)
+returns-else-is_repeat c = told_first (rw c.key_at.ensures at c.is_repeat.ensures)
+    (rw (c.key_at-else-is_repeat.ensures, (c.size_at-last.ensures _ c.side_along.ensures.side))
+    at c.is_repeat-else-is_repeat.ensures) c.if-is_repeat.false (line_tells c.args.keyed.now c.requires.line)

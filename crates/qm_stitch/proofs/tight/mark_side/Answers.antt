@@ -6,5 +6,4 @@ pub mark_uses-requires : goal.mark_uses-requires
 mark_uses-requires c = search (rules, uses_low)
 
 pub returns : goal.returns
-returns c = adds_side (layout_of c.args.numbered.now.t.now) c.args.patch c.args.side c.side_of.result.now
-    c.args.tight.now c.mark_uses.new.tight c.side_of.ensures c.mark_uses.ensures
+returns c = adds_side (layout_of c.args.numbered.now.t.now) _ _ _ _ _ c.side_of.ensures c.mark_uses.ensures

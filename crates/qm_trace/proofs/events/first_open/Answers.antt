@@ -1,5 +1,5 @@
-use Rattle.std.proofs.Common.{rules, ◌≡◌, ◌+◌, ℕ, true, take, Some, is_some, ap, ◌∙◌}
-use Rattle.std.proofs.{lemmas.Bool.eqb-true, lemmas.Bool.or_cases, lemmas.List.take_all}
+use Rattle.std.proofs.Common.{arith, rules, ◌≡◌, ◌+◌, ℕ, true, take, Some, is_some, ap, ◌∙◌}
+use Rattle.std.proofs.{lemmas.List.take_all}
 use Rattle.def_cut.specs.{Events.darts_in, Events.leads_to, Events.note_at, FullCut.is_on}
 use Rattle.def_cut.specs.{Motion.is_among, Traced.terrain_of}
 use Rattle.motion_laws.proofs.{Among.any_at, Marks.among_at, Marks.noted_among, Marks.noted_short}
@@ -7,8 +7,7 @@ use Rattle.{def_mesh.specs.Darts.to_of, qm_trace.proofs.Tellings.among_more}
 use Rattle.qm_trace.proofs.events.first_open.Goals as goal
 
 pub bounds-noted-r : goal.bounds-noted-r
-bounds-noted-r c =
-    noted_short _ _ _ (c.requires.notes _ (among_at c.args.queue.now c.queue.r-index c.queue-test.true)).1
+bounds-noted-r c = grind (arith, noted_short, among_at c.args.queue.now c.queue.r-index c.queue-test.true)
 
 pub unwrap-d-requires : goal.unwrap-d-requires
 unwrap-d-requires c = ap is_some (c.requires.notes _ (among_at c.args.queue.now c.queue.r-index c.queue-test.true)).1
@@ -23,9 +22,7 @@ returns-then-not-settled-vertex-clause-end c = any_at (leads_to (terrain_of c.ar
 -- The notes of the riders up to this one end at settled vertices.
 up_to : (c : goal.Else-not-settled-vertex) (r d : ℕ) → is_among r (take (c.queue.r-index + 1) c.args.queue.now) ≡ true
     → note_at c.args.noted.now r ≡ Some d → is_on c.args.settled.now (to_of c.args.mesh.now d) ≡ true
-up_to c r d among note =
-    let more = among_more c.args.queue.now c.queue.r-index r c.queue-test.true in
-    search (rules, or_cases, more, eqb-true, c.queue.invariant.none r)
+up_to c r d among note = search (rules, among_more c.args.queue.now c.queue.r-index r c.queue-test.true)
 
 pub queue-preserved : goal.queue-preserved
 queue-preserved c = record { none = up_to c }

@@ -1,6 +1,6 @@
 use Rattle.std.proofs.Common.{rules, is_some, ap, ◌∙◌, arith}
 use Rattle.qm_trace.proofs.Noting.{ends_back, marks_back, taken_back, back_short, dart_read, note_back, note_read}
-use Rattle.{std.proofs.lemmas.List.length-set, def_mesh.specs.Darts.to_of}
+use Rattle.{def_mesh.specs.Darts.to_of}
 use Rattle.qm_trace.proofs.notes.clear_each.Goals as goal
 
 pub index-requires : goal.index-requires
@@ -32,8 +32,7 @@ loop-r-preserved c =
     let back = note_back c.requires.queue c.loop-r-test.true c.loop-r.invariant.noted c.requires.notes in
     let dart = dart_read back c.index.ensures c.unwrap-d.ensures in
     let marks = marks_back back c.loop-r.taken.items
-    (omega (arith, back.note.2, c.requires.long.0, c.loop-r.invariant.taken_long)) c.loop-r.invariant.taken in
+    (omega (arith, c.loop-r.invariant.taken_long)) c.loop-r.invariant.taken in
     let ends = ends_back back c.loop-r.settled.items (c.to.ensures.value ∙ ap (to_of c.args.mesh.now) dart)
-    (omega (arith, c.to.ensures.vertex, c.requires.long.1, c.loop-r.invariant.settled_long))
-    c.loop-r.invariant.settled in
-    search (rules, length-set, taken_back back, rw (← dart) at marks, ends)
+    (omega (arith, c.loop-r.invariant.settled_long)) c.loop-r.invariant.settled in
+    search (rules, taken_back back, ends)

@@ -12,8 +12,7 @@ ride_all-requires c =
 pub returns-clause-at : goal.returns-clause-at
 returns-clause-at c marks k at =
     let m = c.faces-known.ensures.mesh.manifold in
-    let each = c.set.ensures.each in
-    let riders = c.ride_all.ensures marks k (instant m at c.requires.queue c.requires.ridden _ each) in
+    let riders = c.ride_all.ensures marks k (instant m at c.requires.queue c.requires.ridden _ c.set.ensures.each) in
     search (
       rules,
       stands_next m at c.requires.queue c.requires.ridden,

@@ -1,4 +1,5 @@
-use Rattle.std.proofs.Common.{rules, ◌≡◌, ◌<◌, false, length, sym, ap, ◌∙◌, arith}
+use Rattle.std.proofs.lemmas.Grind.{common_steps}
+use Rattle.std.proofs.Common.{rules, ◌≡◌, ◌<◌, length, sym, ap, ◌∙◌, arith}
 use Rattle.qm_trace.proofs.Tellings.{none_here, noted_here, one_here, told_all_along, Turn, may_tell}
 use Rattle.qm_trace.proofs.telling.tell_all.Goals.{After-index, then-index, else-index}
 use Rattle.{std.proofs.lemmas.List.get_or_default, std.proofs.lemmas.List.take_all, def_cut.specs.FullCut.is_on}
@@ -13,8 +14,7 @@ turn : (c : After-index) → Turn c.args.mesh.now c.args.site c.args.v c.args.no
 turn c = search rules
 
 mark : (c : After-index) → c.index.result.now ≡ is_on c.args.notes.now.taken.items c.prev-d.result
-mark c = c.index.ensures
-    ∙ get_or_default c.args.notes.now.taken.items c.prev-d.result c.index.result.now false (omega arith)
+mark c = grind (arith, common_steps)
 
 pub tell_one-requires-clause-may : goal.tell_one-requires-clause-may
 tell_one-requires-clause-may c =

@@ -18,10 +18,9 @@ tell_riders-requires-clause-stopped c =
 
 pub returns : goal.returns
 returns c =
-    let covered = c.close-covered.ensures ∙ cut_is c.args.mesh.now (marked_last c.args.mesh.now c.args.marks.now)
+    let covered = c.close-covered.ensures ∙ cut_is c.args.mesh.now (marked_last c.args.mesh.now _)
     c.in_ok-end.end.covered.items c.in_ok-end.ensures.covered_is in
     record {
       graph = search rules;
-      cut = rw covered
-          (marked_law c.args.mesh.now c.args.marks.now c.faces-known.ensures.mesh.manifold c.requires.marks).full;
+      cut = rw covered (marked_law _ _ c.faces-known.ensures.mesh.manifold c.requires.marks).full;
     }

@@ -1,6 +1,8 @@
-use Rattle.std.proofs.Common.{rules, ◌≡◌, ℕ, true, length, refl, sym, ap, ◌∙◌}
+use Rattle.qm_trace.proofs.Counting.{tally_none}
+use Rattle.qm_trace.proofs.Counting.{waiting_is}
+use Rattle.std.proofs.Common.{arith, rules, ◌≡◌, ℕ, true, length, refl, sym, ap, ◌∙◌}
 use Rattle.def_cut.specs.{Events.darts_in, FullCut.is_on, Motion.is_among}
-use Rattle.qm_trace.proofs.Fewer.{reached_now, over_where, settle_may, settle_not_over}
+use Rattle.qm_trace.proofs.Fewer.{reached_now, over_where, settle_not_over}
 use Rattle.qm_trace.proofs.{Reaching.reached_by, Ends.starts_few, Noting.noted_low_at}
 use Rattle.{def_mesh.specs.Darts.to_of, motion_laws.proofs.Marks.noted_among, motion_laws.proofs.Marks.noted_where}
 use Rattle.qm_trace.proofs.motion.Motion.possible.Goals as goal
@@ -13,11 +15,8 @@ first_open-requires c =
     let now = reached_now c.faces-known.ensures.mesh.manifold c.self.view_is c.requires in
     record {
       notes = λ r among.
-          let note = c.self.invariant.notes_are.queue_is r (sym (ap (is_among r) c.deref-3.ensures.value) ∙ among) in (
-            note.0,
-            rw c.deref-4.ensures.value note.1,
-            noted_low_at now note.0 (noted_among c.self.inside.notes.noted.items r note.0 note.1),
-          );
+          let note = c.self.invariant.notes_are.queue_is r (sym (ap (is_among r) c.deref-3.ensures.value) ∙ among) in
+          grind (arith, noted_low_at now note.0 (noted_among c.self.inside.notes.noted.items r note.0 note.1));
       long = ap length c.deref-5.ensures.value ∙ now.shown.settled_long;
     }
 
@@ -32,9 +31,7 @@ returns-in_err-vertex-clause-over c =
     (λ _. rw (← c.self.view_is) (over_where now none settled), λ _. c.from_residual.ensures)
 
 pub returns-clause-settles : goal.returns-clause-settles
-returns-clause-settles c v is =
-    let now = reached_now c.faces-known.ensures.mesh.manifold c.self.view_is c.requires in
-    search (rules, settle_may)
+returns-clause-settles c v is = search (rules, waiting_is, tally_none)
 
 pub returns-clause-over : goal.returns-clause-over
 returns-clause-over c =

@@ -1,6 +1,8 @@
+use Rattle.motion_laws.proofs.Order.{noted_low}
+use Rattle.std.proofs.lemmas.Grind.{common_steps}
 use Rattle.std.proofs.Common.{rules, length, sym, ap, ◌∙◌, refl, arith}
 use Rattle.qm_trace.proofs.Fewer.{rode_counted, rode_waits, rides, as_read, event_on}
-use Rattle.qm_trace.proofs.Reaching.{ride_alone, ride_dart, ride_few, ride_fresh, ride_noted}
+use Rattle.qm_trace.proofs.Reaching.{ride_alone, ride_dart, ride_few, ride_fresh}
 use Rattle.{std.proofs.lemmas.List.length-set, std.proofs.lemmas.List.with_items_is, def_cut.specs.Events.Event.Ride}
 use Rattle.{qm_trace.proofs.Ends.starts_few, qm_trace.proofs.Counting.tally_few}
 use Rattle.qm_trace.proofs.motion.Motion.ride.Goals as goal
@@ -15,8 +17,7 @@ pub overflow_sub-self : goal.overflow_sub-self
 overflow_sub-self c =
     let k = rides c.vertices-vertices.ensures.mesh.manifold c.self.view_is c.requires.motion c.args.r
     c.requires.rider c.requires.possible in
-    let same = as_read k c.index-rider.ensures in
-    omega (arith, c.self.invariant.waits_is, rode_waits k same refl)
+    omega (arith, c.self.invariant.waits_is, rode_waits k (as_read k c.index-rider.ensures) refl)
 
 pub cover_edge-requires : goal.cover_edge-requires
 cover_edge-requires c = search (rules, rides, as_read, ride_dart)
@@ -25,8 +26,7 @@ pub note-requires : goal.note-requires
 note-requires c =
     let k = rides c.vertices-vertices.ensures.mesh.manifold c.self.view_is c.requires.motion c.args.r
     c.requires.rider c.requires.possible in
-    let same = as_read k c.index-rider.ensures in
-    search (rules, ride_noted k, ride_dart k, ride_fresh k, ride_alone k)
+    search (rules, as_read, ride_dart, ride_fresh, ride_alone, noted_low)
 
 pub invariant_of-self : goal.invariant_of-self
 invariant_of-self c =
@@ -45,11 +45,7 @@ invariant_of-self c =
     }
 
 pub returns-clause-event : goal.returns-clause-event
-returns-clause-event c =
-    let k = rides c.vertices-vertices.ensures.mesh.manifold c.self.view_is c.requires.motion c.args.r
-    c.requires.rider c.requires.possible in
-    let same = as_read k c.index-rider.ensures in
-    search (rules, with_items_is)
+returns-clause-event c = grind (arith, common_steps)
 
 pub returns-clause-motion : goal.returns-clause-motion
 returns-clause-motion c =

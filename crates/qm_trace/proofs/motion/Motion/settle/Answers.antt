@@ -1,7 +1,10 @@
+use Rattle.std.proofs.lemmas.List.{length-replicate}
+use Rattle.qm_trace.proofs.Counting.{none_untold}
+use Rattle.qm_trace.proofs.Counting.{tally_runs}
 use Rattle.std.proofs.Common.{rules, true, false, ap, refl}
 use Rattle.std.proofs.{lemmas.Bool.eq-eqb, lemmas.Bool.ne_eqb, lemmas.List.length-set}
 use Rattle.def_cut.specs.{Events.Event.Settle}
-use Rattle.qm_trace.proofs.Fewer.{settling, settles, event_on, counted_again, made, waits_again}
+use Rattle.qm_trace.proofs.Fewer.{settling, settles, event_on, made, waits_again}
 use Rattle.qm_trace.proofs.Noting.{can_tell, ends_now, noted_low_at, settle_low, settled_state, still_wait}
 use Rattle.qm_trace.proofs.motion.Motion.settle.Goals as goal
 
@@ -17,7 +20,7 @@ clear-requires c =
     search (rules, noted_low_at k.now, length-set, ends_now k)
 
 pub invariant_of-self : goal.invariant_of-self
-invariant_of-self c = search (rules, counted_again, waits_again)
+invariant_of-self c = search (rules, length-replicate, tally_runs, none_untold, waits_again)
 
 pub invariant_of-self-else-self-eq0 : goal.invariant_of-self-else-self-eq0
 invariant_of-self-else-self-eq0 c =

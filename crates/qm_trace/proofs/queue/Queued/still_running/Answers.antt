@@ -8,6 +8,5 @@ bounds-self-r c = c.args.self.now.low _ (among_at c.args.self.now.queue.now c.lo
 
 pub loop-r-preserved : goal.loop-r-preserved
 loop-r-preserved c =
-    let s = c.args.self.now in
-    let more = running_more (λ r. is_running (rider_at s.riders.now r).stop) _ _ c.loop-r-test.true in
+    let more = running_more (λ r. is_running (rider_at c.args.self.now.riders.now r).stop) _ _ c.loop-r-test.true in
     elim c.if-runs.branch [ then-runs+in_ok-push w ↦ search rules | else-runs w ↦ search rules ]
