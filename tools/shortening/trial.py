@@ -24,6 +24,7 @@ NO_LEMMA = TACTICS | {"arith", "rules", "common_steps", "refl", "absurd", "sym",
 BY_TACTIC = re.compile(r"\((omega|search|grind|cc|sym|rw|simp|subst|record|λ)|λ|refl$|_$")
 ERROR = re.compile(r"^(?:\./)?(proofs/[^\s:]+\.antt):(\d+)\S* error: (.*)$", re.MULTILINE)
 Error = tuple[Path, int, str]
+LONE = re.compile(r"(?<![^\s(\[{])(search|grind|omega|simp|cc|assumption) \(\s*([^\s(){},;]+),?\s*\)")
 UNREAD = re.compile(r"expected|unexpected|this line|`=` cannot")
 
 
@@ -62,7 +63,8 @@ class Edit:
 def edited(text: str, edits: Sequence[Edit], is_bounded: bool = False) -> str:
     for it in sorted(edits, key=lambda it: -it.start):
         text = text[: it.start] + it.text(is_bounded) + text[it.end :]
-    return text
+    # What several facts leave of a list is no tuple.
+    return LONE.sub(r"\1 \2", text)
 
 
 def outermost(edits: Sequence[Edit]) -> list[Edit]:

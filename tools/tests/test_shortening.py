@@ -130,6 +130,11 @@ class Written(unittest.TestCase):
         self.assertEqual(edited("high = 3", [search, blank]), "_ = search (rules, low)")
         self.assertEqual(outermost([search, Edit(path, 0, 5, 8, ())]), [Edit(path, 0, 5, 8, ())])
 
+    def test_one_fact_that_is_left_stands_without_brackets(self):
+        text, path = "cc (a,\n  b, c)", pathlib.Path("A.antt")
+        drops = [Edit(path, 0, start, end, (), other=put) for start, end, put in fewer_facts(Terms(text), 0)]
+        self.assertEqual(edited(text, drops[:2]), "cc c")
+
     def test_tactics(self):
         grind = Edit(pathlib.Path("A.antt"), 0, 7, 8, ("common_steps",), "grind")
         self.assertEqual(edited("high = 3", [grind], is_bounded=True)[7:], "grind (arith, common_steps) steps 250000")
