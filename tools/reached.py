@@ -12,9 +12,9 @@ from collections.abc import Iterator
 from dataclasses import dataclass
 from pathlib import Path
 
-NAME = r"[^\s(){};,.:@\"«»\[\]|]+"
-WORD = re.compile(NAME)
-DECLARED = re.compile(rf"\s*(?:abbrev |record |data |ruleset )?(?:pub )?({NAME})(?: :| \(| \{{)")
+from shortening.unneeded import PART
+
+DECLARED = re.compile(rf"\s*(?:abbrev |record |data |ruleset )?(?:pub )?({PART.pattern})(?: :| \(| \{{)")
 USE = re.compile(r"(?:pub |ghost )?use ")
 FUNCTION = re.compile(r"\bfn (\w+)")
 USING = re.compile(r"\busing\(([^)]*)\)(?:(?!\bfn ).)*\bfn (\w+)", re.DOTALL)
@@ -78,7 +78,7 @@ def paragraphs(text: str) -> Iterator[Paragraph]:
         own = block.strip("\n").split("\n")
         told = [line for line in own if not line.lstrip().startswith("--")]
         found = {match[1] for line in told if (match := DECLARED.match(line))}
-        yield Paragraph(len(own), found, set(WORD.findall("\n".join(told))))
+        yield Paragraph(len(own), found, set(PART.findall("\n".join(told))))
 
 
 class Proofs:

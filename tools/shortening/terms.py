@@ -11,6 +11,7 @@ TOKEN = re.compile(r"--[^\n]*|[(){}\[\];,]|[^\s(){}\[\];,]+")
 WORD = re.compile(r"[^\s(){};,@\"«»\[\]|]+")
 CLOSING = {"(": ")", "{": "}", "[": "]"}
 TACTICS = {"search", "grind", "omega", "simp", "cc", "assumption", "rw", "unfolding"}
+WITH_FACTS = TACTICS - {"rw", "unfolding"}
 OPERATORS = set("∙ = → ≡ + - * < ≤ ∷ ++ % / ^ : ↦ at ×".split())
 NO_DECLARATION = ("--", "let ", "in ", "|", "use ", "open ")
 BINDER = re.compile(r"[|\[] [^↦\[\]|]*↦|λ [^.]*\.(?=\s)|(?<!\S)let (\([^)]*\)|\S+)")

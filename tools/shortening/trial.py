@@ -11,7 +11,9 @@ from itertools import takewhile
 from pathlib import Path
 
 from shortening.lines import refilled
-from shortening.terms import TACTICS, WORD, Call, Declaration, Right, Span, Terms, bound_in, declarations, heads_in
+from shortening.terms import (
+    TACTICS, WITH_FACTS, WORD, Call, Declaration, Right, Span, Terms, bound_in, declarations, heads_in
+)
 
 GIVEN = {"search": "rules", "grind": "arith"}
 BOUNDS = {"search": " fits 100 steps 500000", "grind": " steps 250000"}
@@ -24,7 +26,7 @@ NO_LEMMA = TACTICS | {"arith", "rules", "common_steps", "refl", "absurd", "sym",
 BY_TACTIC = re.compile(r"\((omega|search|grind|cc|sym|rw|simp|subst|record|λ)|λ|refl$|_$")
 ERROR = re.compile(r"^(?:\./)?(proofs/[^\s:]+\.antt):(\d+)\S* error: (.*)$", re.MULTILINE)
 Error = tuple[Path, int, str]
-LONE = re.compile(r"(?<![^\s(\[{])(search|grind|omega|simp|cc|assumption) \(\s*([^\s(){},;]+),?\s*\)")
+LONE = re.compile(rf"(?<![^\s(\[{{])({'|'.join(sorted(WITH_FACTS))}) \(\s*([^\s(){{}},;]+),?\s*\)")
 UNREAD = re.compile(r"expected|unexpected|this line|`=` cannot")
 
 

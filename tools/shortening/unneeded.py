@@ -10,10 +10,9 @@ from collections import Counter
 from collections.abc import Iterable, Iterator
 from pathlib import Path
 
-from shortening.terms import BINDER, TACTICS, WORD, Terms, bound_in, declarations, heads_in
+from shortening.terms import BINDER, TACTICS, WITH_FACTS, WORD, Terms, bound_in, declarations, heads_in
 from shortening.trial import MODULES, Edit, File
 
-LISTS = TACTICS - {"rw", "unfolding"}
 NO_VALUE = TACTICS | {"elim", "record", "let", "λ"}
 PART = re.compile(r"[^\s(){};,.:@\"«»\[\]|]+")
 SHORT = 50
@@ -26,7 +25,7 @@ def unneeded(file: File) -> Iterator[Edit]:
     for of, right, terms in file.terms():
         if "\n" in terms.text.strip() and terms.is_whole:
             for at, (word, _, _) in enumerate(terms.tokens):
-                found = fewer_facts(terms, at) if word in LISTS else fewer_lets(terms, at) if word == "let" else ()
+                found = fewer_facts(terms, at) if word in WITH_FACTS else fewer_lets(terms, at) if word == "let" else ()
                 for start, end, text in found:
                     yield Edit(file.path, of.first, right.start + start, right.start + end, (), other=text)
 
